@@ -1,6 +1,6 @@
 -- How many distinct locations lists and marks have.
 use Rattle.std.proofs.Common.{◌≡◌, ℕ, suc, ◌+◌, List, [], ◌∷◌, ◌++◌, map, Bool, true, false, true≢false, not, ◌&&◌, ◌||◌, if◌then◌else◌, None, String, Global, refl, sym, ap, ap₂, ◌∙◌, arith}
-use Rattle.jsonpath_base.specs.Prelude.{counted_with, distinct_count, HasAlso, index, is_among, is_key, is_location, is_same_step, listed, listed_in, Location, lookup, marked_in, Marks, name, Step, to_member}
+use Rattle.jsonpath_base.specs.Prelude.{counted_with, distinct_count, HasAlso, index, is_among, is_key, is_location, is_same_step, listed, listed_in, Location, lookup, marked_in, LocationTrie, name, Step, to_member}
 use Rattle.std.proofs.lemmas.Bool.{or_parts}
 use Rattle.jsonpath_base.proofs.Marking.{step_itself, among_append, among_under, in_here, no_member, no_element, parts, AreKeys, not_held, same_step}
 use Rattle.jsonpath_base.proofs.Removed.{same_location, location_itself, location_back}
@@ -101,11 +101,11 @@ under_count r [] = refl
 under_count r (m ∷ ms) = rw (among_under r r ms m, step_itself r, under_count r ms)
 
 -- of each entry, one after the other
-abbrev pub counts : {K : Type 0} → List (K × Marks) → ℕ
+abbrev pub counts : {K : Type 0} → List (K × LocationTrie) → ℕ
 counts [] = 0
 counts (e ∷ es) = distinct_count (listed e.1) + counts es
 
-apart_from : {K : Type 0} (to : K → Step) (e : K × Marks) (es : List (K × Marks)) → lookup (is_key to (to e.0)) es ≡ None → (l : Location) → is_among (map (λ m. to e.0 ∷ m) (listed e.1)) l ≡ true → marked_in to es l ≡ false
+apart_from : {K : Type 0} (to : K → Step) (e : K × LocationTrie) (es : List (K × LocationTrie)) → lookup (is_key to (to e.0)) es ≡ None → (l : Location) → is_among (map (λ m. to e.0 ∷ m) (listed e.1)) l ≡ true → marked_in to es l ≡ false
 apart_from to e es none [] h = in_here to es
 apart_from to e es none (s ∷ l) h = pick (is_same_step (to e.0) s) refl (sym (among_under (to e.0) s (listed e.1) l) ∙ h)
   where
@@ -113,17 +113,17 @@ apart_from to e es none (s ∷ l) h = pick (is_same_step (to e.0) s) refl (sym (
     pick true same f = ap (λ r. marked_in to es (r ∷ l)) (sym (same_step (to e.0) s same)) ∙ not_held to es (to e.0) l none
     pick false other f = absurd (true≢false (sym f))
 
-pub level_count : {K : Type 0} (to : K → Step) (es : List (K × Marks)) → AreKeys to es → distinct_count (listed_in to es) ≡ counts es
+pub level_count : {K : Type 0} (to : K → Step) (es : List (K × LocationTrie)) → AreKeys to es → distinct_count (listed_in to es) ≡ counts es
 level_count to [] h = refl
 level_count to (e ∷ es) h =
     append_count (map (λ m. to e.0 ∷ m) (listed e.1)) (listed_in to es) (apart_from to e es h.0) ∙ ap₂ (λ a b. a + b) (under_count (to e.0) (listed e.1)) (level_count to es h.1)
 
-names_apart : (ns : List (String Global × Marks)) (is : List (ℕ × Marks)) (l : Location) → marked_in to_member ns l ≡ true → marked_in index is l ≡ false
+names_apart : (ns : List (String Global × LocationTrie)) (is : List (ℕ × LocationTrie)) (l : Location) → marked_in to_member ns l ≡ true → marked_in index is l ≡ false
 names_apart ns is [] h = in_here index is
 names_apart ns is (name k ∷ l) h = no_member is k l
 names_apart ns is (index i ∷ l) h = absurd (true≢false (sym h ∙ no_element ns i l))
 
-pub parts_count : (b : Bool) (ns : List (String Global × Marks)) (is : List (ℕ × Marks)) → distinct_count (parts b ns is) ≡ (if b then 1 else 0) + (distinct_count (listed_in to_member ns) + distinct_count (listed_in index is))
+pub parts_count : (b : Bool) (ns : List (String Global × LocationTrie)) (is : List (ℕ × LocationTrie)) → distinct_count (parts b ns is) ≡ (if b then 1 else 0) + (distinct_count (listed_in to_member ns) + distinct_count (listed_in index is))
 parts_count b ns is = pick b
   where
     both : distinct_count (listed_in to_member ns ++ listed_in index is) ≡ distinct_count (listed_in to_member ns) + distinct_count (listed_in index is)

@@ -36,5 +36,5 @@ pub mod LoanTies
 pub mod LoanWords
 pub mod LastMarks
 pub mod LoanOut
-pub mod WayLaws
+pub mod CurrentPathLaws
 pub mod lemmas

@@ -6,10 +6,10 @@ use Rattle.std.proofs.lemmas.List.Folds.{list_any-append}
 use Rattle.std.proofs.lemmas.Cmp.{ranked}
 use Rattle.std.proofs.lemmas.Map.Text.{is_eq-slice_cmp}
 use Rattle.std.proofs.lemmas.Slice.Eq.{bytes_eq-Decides}
-use Rattle.jsonpath_base.specs.Prelude.{AllByRecursion, HasAlso, index, insert_entry, is_among, is_key, is_location, is_same_step, IsStrictlySortedBy, keys_of, listed, listed_in, Location, lookup, marked, marked_below, marked_by, marked_in, Marks, marks_count, marks_total, match_ordering, name, out-Marks, Step, TestsSteps, the_lemmas, to_member, total}
+use Rattle.jsonpath_base.specs.Prelude.{AllByRecursion, HasAlso, index, insert_entry, is_among, is_key, is_location, is_same_step, IsStrictlySortedBy, keys_of, listed, listed_in, Location, lookup, marked, marked_below, marked_by, marked_in, LocationTrie, marks_count, marks_total, match_ordering, name, out-LocationTrie, Step, TestsSteps, the_lemmas, to_member, total}
 use Rattle.std.specs.Cmp.{nat_eq_equiv, unsigned_tied}
-use Rattle.jsonpath_base.specs.inner.Marks.{listed_of}
-use Rattle.jsonpath_base.specs.declared.marks.Marks.TheViews.{roll-Marks}
+use Rattle.jsonpath_base.specs.inner.LocationTries.{listed_of}
+use Rattle.jsonpath_base.specs.declared.location_trie.LocationTrie.TheViews.{roll-LocationTrie}
 
 -- ---- steps
 
@@ -62,56 +62,56 @@ among_under r s (m ∷ ms) l = pick (is_same_step r s) (is_location m l) (is_amo
 
 -- ---- one level
 
-pub in_here : {K : Type 0} (to : K → Step) (es : List (K × Marks)) → marked_in to es [] ≡ false
+pub in_here : {K : Type 0} (to : K → Step) (es : List (K × LocationTrie)) → marked_in to es [] ≡ false
 in_here to [] = refl
 in_here to (e ∷ es) = among_append (map (λ l. to e.0 ∷ l) (listed e.1)) (listed_in to es) [] ∙ rw (among_here (to e.0) (listed e.1), in_here to es)
 
-pub in_step : {K : Type 0} (to : K → Step) (e : K × Marks) (es : List (K × Marks)) (s : Step) (l : Location) → marked_in to (e ∷ es) (s ∷ l) ≡ ((is_same_step (to e.0) s && marked e.1 l) || marked_in to es (s ∷ l))
+pub in_step : {K : Type 0} (to : K → Step) (e : K × LocationTrie) (es : List (K × LocationTrie)) (s : Step) (l : Location) → marked_in to (e ∷ es) (s ∷ l) ≡ ((is_same_step (to e.0) s && marked e.1 l) || marked_in to es (s ∷ l))
 in_step to e es s l = among_append (map (λ l. to e.0 ∷ l) (listed e.1)) (listed_in to es) (s ∷ l) ∙ ap (λ b. b || marked_in to es (s ∷ l)) (among_under (to e.0) s (listed e.1) l)
 
-listed-append : {K : Type 0} (to : K → Step) (es fs : List (K × Marks)) → listed_in to (es ++ fs) ≡ listed_in to es ++ listed_in to fs
+listed-append : {K : Type 0} (to : K → Step) (es fs : List (K × LocationTrie)) → listed_in to (es ++ fs) ≡ listed_in to es ++ listed_in to fs
 listed-append to [] fs = refl
 listed-append to (e ∷ es) fs = ap (λ x. map (λ l. to e.0 ∷ l) (listed e.1) ++ x) (listed-append to es fs) ∙ sym (append_assoc (map (λ l. to e.0 ∷ l) (listed e.1)) (listed_in to es) (listed_in to fs))
 
-pub in_append : {K : Type 0} (to : K → Step) (es fs : List (K × Marks)) (l : Location) → marked_in to (es ++ fs) l ≡ (marked_in to es l || marked_in to fs l)
+pub in_append : {K : Type 0} (to : K → Step) (es fs : List (K × LocationTrie)) (l : Location) → marked_in to (es ++ fs) l ≡ (marked_in to es l || marked_in to fs l)
 in_append to es fs l = ap (λ x. is_among x l) (listed-append to es fs) ∙ among_append (listed_in to es) (listed_in to fs) l
 
 -- ---- marks
 
-listed_of-map : {K : Type 0} (to : K → Step) (es : List (K × Marks)) → listed_of to (map (λ e. (e.0, listed e.1)) es) ≡ listed_in to es
+listed_of-map : {K : Type 0} (to : K → Step) (es : List (K × LocationTrie)) → listed_of to (map (λ e. (e.0, listed e.1)) es) ≡ listed_in to es
 listed_of-map to [] = refl
 listed_of-map to (e ∷ es) = ap (λ x. map (λ l. to e.0 ∷ l) (listed e.1) ++ x) (listed_of-map to es)
 
 -- the locations of marks, by its fields
-abbrev pub parts : Bool → List (String Global × Marks) → List (ℕ × Marks) → List Location
+abbrev pub parts : Bool → List (String Global × LocationTrie) → List (ℕ × LocationTrie) → List Location
 parts here names indexes = (if here then [] ∷ [] else []) ++ (listed_in to_member names ++ listed_in index indexes)
 
-listed_further : (m : Marks) → listed m
-    ≡ (if (out-Marks m).here then [] ∷ [] else []) ++ (listed_of to_member (map (λ e. (e.0, listed e.1)) (out-Marks m).names.items) ++ listed_of index (map (λ e. (e.0, listed e.1)) (out-Marks m).indexes.items))
+listed_further : (m : LocationTrie) → listed m
+    ≡ (if (out-LocationTrie m).is_marked then [] ∷ [] else []) ++ (listed_of to_member (map (λ e. (e.0, listed e.1)) (out-LocationTrie m).names.items) ++ listed_of index (map (λ e. (e.0, listed e.1)) (out-LocationTrie m).indexes.items))
 listed_further m = search (rules, the_lemmas)
 
-pub listed_out : (m : Marks) → listed m ≡ parts (out-Marks m).here (out-Marks m).names.items (out-Marks m).indexes.items
-listed_out m = listed_further m ∙ rw (listed_of-map to_member (out-Marks m).names.items, listed_of-map index (out-Marks m).indexes.items)
+pub listed_out : (m : LocationTrie) → listed m ≡ parts (out-LocationTrie m).is_marked (out-LocationTrie m).names.items (out-LocationTrie m).indexes.items
+listed_out m = listed_further m ∙ rw (listed_of-map to_member (out-LocationTrie m).names.items, listed_of-map index (out-LocationTrie m).indexes.items)
 
-abbrev pub rolled : Bool → Vec (String Global × Marks) Global → Vec (ℕ × Marks) Global → Marks
-rolled b names indexes = roll-Marks (record { here = b; names = names; indexes = indexes })
+abbrev pub rolled : Bool → Vec (String Global × LocationTrie) Global → Vec (ℕ × LocationTrie) Global → LocationTrie
+rolled b names indexes = roll-LocationTrie (record { is_marked = b; names = names; indexes = indexes })
 
-rolled_further : (b : Bool) (ns : Vec (String Global × Marks) Global) (is : Vec (ℕ × Marks) Global) → listed (rolled b ns is)
+rolled_further : (b : Bool) (ns : Vec (String Global × LocationTrie) Global) (is : Vec (ℕ × LocationTrie) Global) → listed (rolled b ns is)
     ≡ (if b then [] ∷ [] else []) ++ (listed_of to_member (map (λ e. (e.0, listed e.1)) ns.items) ++ listed_of index (map (λ e. (e.0, listed e.1)) is.items))
 rolled_further b ns is = search (rules, the_lemmas)
 
-pub listed_rolled : (b : Bool) (ns : Vec (String Global × Marks) Global) (is : Vec (ℕ × Marks) Global) → listed (rolled b ns is) ≡ parts b ns.items is.items
+pub listed_rolled : (b : Bool) (ns : Vec (String Global × LocationTrie) Global) (is : Vec (ℕ × LocationTrie) Global) → listed (rolled b ns is) ≡ parts b ns.items is.items
 listed_rolled b ns is = rolled_further b ns is ∙ rw (listed_of-map to_member ns.items, listed_of-map index is.items)
 
-pub no_member : (es : List (ℕ × Marks)) (k : List ℕ) (l : Location) → marked_in index es (name k ∷ l) ≡ false
+pub no_member : (es : List (ℕ × LocationTrie)) (k : List ℕ) (l : Location) → marked_in index es (name k ∷ l) ≡ false
 no_member [] k l = refl
 no_member (e ∷ es) k l = in_step index e es (name k) l ∙ no_member es k l
 
-pub no_element : (es : List (String Global × Marks)) (i : ℕ) (l : Location) → marked_in to_member es (index i ∷ l) ≡ false
+pub no_element : (es : List (String Global × LocationTrie)) (i : ℕ) (l : Location) → marked_in to_member es (index i ∷ l) ≡ false
 no_element [] i l = refl
 no_element (e ∷ es) i l = in_step to_member e es (index i) l ∙ no_element es i l
 
-parts_split : (b : Bool) (ns : List (String Global × Marks)) (is : List (ℕ × Marks)) (l : Location) → is_among (parts b ns is) l ≡ (is_among (if b then [] ∷ [] else []) l || (marked_in to_member ns l || marked_in index is l))
+parts_split : (b : Bool) (ns : List (String Global × LocationTrie)) (is : List (ℕ × LocationTrie)) (l : Location) → is_among (parts b ns is) l ≡ (is_among (if b then [] ∷ [] else []) l || (marked_in to_member ns l || marked_in index is l))
 parts_split b ns is l =
     among_append (if b then [] ∷ [] else []) (listed_in to_member ns ++ listed_in index is) l ∙ ap (λ x. is_among (if b then [] ∷ [] else []) l || x) (among_append (listed_in to_member ns) (listed_in index is) l)
 
@@ -123,34 +123,34 @@ here_further : (b : Bool) (s : Step) (l : Location) → is_among (if b then [] �
 here_further true s l = refl
 here_further false s l = refl
 
-pub parts_here : (b : Bool) (ns : List (String Global × Marks)) (is : List (ℕ × Marks)) → is_among (parts b ns is) [] ≡ b
+pub parts_here : (b : Bool) (ns : List (String Global × LocationTrie)) (is : List (ℕ × LocationTrie)) → is_among (parts b ns is) [] ≡ b
 parts_here b ns is = parts_split b ns is [] ∙ rw (here_here b, in_here to_member ns, in_here index is) (or_none b)
 
-pub parts_member : (b : Bool) (ns : List (String Global × Marks)) (is : List (ℕ × Marks)) (k : List ℕ) (l : Location) → is_among (parts b ns is) (name k ∷ l) ≡ marked_in to_member ns (name k ∷ l)
+pub parts_member : (b : Bool) (ns : List (String Global × LocationTrie)) (is : List (ℕ × LocationTrie)) (k : List ℕ) (l : Location) → is_among (parts b ns is) (name k ∷ l) ≡ marked_in to_member ns (name k ∷ l)
 parts_member b ns is k l = parts_split b ns is (name k ∷ l) ∙ rw (here_further b (name k) l, no_member is k l) (or_none (marked_in to_member ns (name k ∷ l)))
 
-pub parts_element : (b : Bool) (ns : List (String Global × Marks)) (is : List (ℕ × Marks)) (i : ℕ) (l : Location) → is_among (parts b ns is) (index i ∷ l) ≡ marked_in index is (index i ∷ l)
+pub parts_element : (b : Bool) (ns : List (String Global × LocationTrie)) (is : List (ℕ × LocationTrie)) (i : ℕ) (l : Location) → is_among (parts b ns is) (index i ∷ l) ≡ marked_in index is (index i ∷ l)
 parts_element b ns is i l = parts_split b ns is (index i ∷ l) ∙ rw (here_further b (index i) l, no_element ns i l)
 
-pub marked_here : (m : Marks) → marked m [] ≡ (out-Marks m).here
-marked_here m = ap (λ x. is_among x []) (listed_out m) ∙ parts_here (out-Marks m).here (out-Marks m).names.items (out-Marks m).indexes.items
+pub marked_here : (m : LocationTrie) → marked m [] ≡ (out-LocationTrie m).is_marked
+marked_here m = ap (λ x. is_among x []) (listed_out m) ∙ parts_here (out-LocationTrie m).is_marked (out-LocationTrie m).names.items (out-LocationTrie m).indexes.items
 
 -- ---- how many
 
-total-map : {K : Type 0} (es : List (K × Marks)) → total (map (λ e. (e.0, marks_count e.1)) es) ≡ marks_total es
+total-map : {K : Type 0} (es : List (K × LocationTrie)) → total (map (λ e. (e.0, marks_count e.1)) es) ≡ marks_total es
 total-map [] = refl
 total-map (e ∷ es) = ap (λ n. marks_count e.1 + n) (total-map es)
 
-count_further : (m : Marks) → marks_count m ≡ suc (total (map (λ e. (e.0, marks_count e.1)) (out-Marks m).names.items) + total (map (λ e. (e.0, marks_count e.1)) (out-Marks m).indexes.items))
+count_further : (m : LocationTrie) → marks_count m ≡ suc (total (map (λ e. (e.0, marks_count e.1)) (out-LocationTrie m).names.items) + total (map (λ e. (e.0, marks_count e.1)) (out-LocationTrie m).indexes.items))
 count_further m = search (rules, the_lemmas)
 
-pub count_out : (m : Marks) → marks_count m ≡ suc (marks_total (out-Marks m).names.items + marks_total (out-Marks m).indexes.items)
-count_out m = count_further m ∙ rw (total-map (out-Marks m).names.items, total-map (out-Marks m).indexes.items)
+pub count_out : (m : LocationTrie) → marks_count m ≡ suc (marks_total (out-LocationTrie m).names.items + marks_total (out-LocationTrie m).indexes.items)
+count_out m = count_further m ∙ rw (total-map (out-LocationTrie m).names.items, total-map (out-LocationTrie m).indexes.items)
 
-count_rolled_further : (b : Bool) (ns : Vec (String Global × Marks) Global) (is : Vec (ℕ × Marks) Global) → marks_count (rolled b ns is) ≡ suc (total (map (λ e. (e.0, marks_count e.1)) ns.items) + total (map (λ e. (e.0, marks_count e.1)) is.items))
+count_rolled_further : (b : Bool) (ns : Vec (String Global × LocationTrie) Global) (is : Vec (ℕ × LocationTrie) Global) → marks_count (rolled b ns is) ≡ suc (total (map (λ e. (e.0, marks_count e.1)) ns.items) + total (map (λ e. (e.0, marks_count e.1)) is.items))
 count_rolled_further b ns is = search (rules, the_lemmas)
 
-pub count_rolled : (b : Bool) (ns : Vec (String Global × Marks) Global) (is : Vec (ℕ × Marks) Global) → marks_count (rolled b ns is) ≡ suc (marks_total ns.items + marks_total is.items)
+pub count_rolled : (b : Bool) (ns : Vec (String Global × LocationTrie) Global) (is : Vec (ℕ × LocationTrie) Global) → marks_count (rolled b ns is) ≡ suc (marks_total ns.items + marks_total is.items)
 count_rolled b ns is = count_rolled_further b ns is ∙ rw (total-map ns.items, total-map is.items)
 
 -- ---- another location
@@ -159,54 +159,54 @@ pub on_ok : {A B : Type 0} {X Y : Type 0} (r : Result A B) → (X → Y) → OnO
 on_ok (Ok a) f x = f x
 on_ok (Err e) f x = x
 
-also_here_in : (b : Bool) (ns : List (String Global × Marks)) (is : List (ℕ × Marks)) (l : Location) → is_among (parts true ns is) l ≡ (is_location [] l || is_among (parts b ns is) l)
+also_here_in : (b : Bool) (ns : List (String Global × LocationTrie)) (is : List (ℕ × LocationTrie)) (l : Location) → is_among (parts true ns is) l ≡ (is_location [] l || is_among (parts b ns is) l)
 also_here_in b ns is [] = parts_here true ns is
 also_here_in b ns is (name k ∷ l) = parts_member true ns is k l ∙ sym (parts_member b ns is k l)
 also_here_in b ns is (index i ∷ l) = parts_element true ns is i l ∙ sym (parts_element b ns is i l)
 
 -- the location with no step
-pub also_here : (m : Marks) (at : Location) → at ≡ [] → HasAlso (marked m) at (marked (rolled true (out-Marks m).names (out-Marks m).indexes))
+pub also_here : (m : LocationTrie) (at : Location) → at ≡ [] → HasAlso (marked m) at (marked (rolled true (out-LocationTrie m).names (out-LocationTrie m).indexes))
 also_here m at e = record {
-  each = λ l. ap (λ x. is_among x l) (listed_rolled true (out-Marks m).names (out-Marks m).indexes)
-      ∙ also_here_in (out-Marks m).here (out-Marks m).names.items (out-Marks m).indexes.items l
+  each = λ l. ap (λ x. is_among x l) (listed_rolled true (out-LocationTrie m).names (out-LocationTrie m).indexes)
+      ∙ also_here_in (out-LocationTrie m).is_marked (out-LocationTrie m).names.items (out-LocationTrie m).indexes.items l
       ∙ ap₂ (λ x y. is_location x l || y) (sym e) (ap (λ x. is_among x l) (sym (listed_out m)));
 }
 
-also_member_in : (b : Bool) (ns new : List (String Global × Marks)) (is : List (ℕ × Marks)) (k : List ℕ) (rest : Location) → HasAlso (marked_in to_member ns) (name k ∷ rest) (marked_in to_member new)
+also_member_in : (b : Bool) (ns new : List (String Global × LocationTrie)) (is : List (ℕ × LocationTrie)) (k : List ℕ) (rest : Location) → HasAlso (marked_in to_member ns) (name k ∷ rest) (marked_in to_member new)
     → (l : Location) → is_among (parts b new is) l ≡ (is_location (name k ∷ rest) l || is_among (parts b ns is) l)
 also_member_in b ns new is k rest h [] = parts_here b new is ∙ sym (parts_here b ns is)
 also_member_in b ns new is k rest h (name n ∷ l) = parts_member b new is n l ∙ h.each (name n ∷ l) ∙ ap (λ x. is_location (name k ∷ rest) (name n ∷ l) || x) (sym (parts_member b ns is n l))
 also_member_in b ns new is k rest h (index i ∷ l) = parts_element b new is i l ∙ sym (parts_element b ns is i l)
 
-pub also_member : (m : Marks) (ns : Vec (String Global × Marks) Global) (k : List ℕ) (rest at : Location) → at ≡ name k ∷ rest → HasAlso (marked_in to_member (out-Marks m).names.items) (name k ∷ rest) (marked_in to_member ns.items)
-    → HasAlso (marked m) at (marked (rolled (out-Marks m).here ns (out-Marks m).indexes))
+pub also_member : (m : LocationTrie) (ns : Vec (String Global × LocationTrie) Global) (k : List ℕ) (rest at : Location) → at ≡ name k ∷ rest → HasAlso (marked_in to_member (out-LocationTrie m).names.items) (name k ∷ rest) (marked_in to_member ns.items)
+    → HasAlso (marked m) at (marked (rolled (out-LocationTrie m).is_marked ns (out-LocationTrie m).indexes))
 also_member m ns k rest at e h = record {
-  each = λ l. ap (λ x. is_among x l) (listed_rolled (out-Marks m).here ns (out-Marks m).indexes)
-      ∙ also_member_in (out-Marks m).here (out-Marks m).names.items ns.items (out-Marks m).indexes.items k rest h l
+  each = λ l. ap (λ x. is_among x l) (listed_rolled (out-LocationTrie m).is_marked ns (out-LocationTrie m).indexes)
+      ∙ also_member_in (out-LocationTrie m).is_marked (out-LocationTrie m).names.items ns.items (out-LocationTrie m).indexes.items k rest h l
       ∙ ap₂ (λ x y. is_location x l || y) (sym e) (ap (λ x. is_among x l) (sym (listed_out m)));
 }
 
-also_element_in : (b : Bool) (ns : List (String Global × Marks)) (is new : List (ℕ × Marks)) (j : ℕ) (rest : Location) → HasAlso (marked_in index is) (index j ∷ rest) (marked_in index new)
+also_element_in : (b : Bool) (ns : List (String Global × LocationTrie)) (is new : List (ℕ × LocationTrie)) (j : ℕ) (rest : Location) → HasAlso (marked_in index is) (index j ∷ rest) (marked_in index new)
     → (l : Location) → is_among (parts b ns new) l ≡ (is_location (index j ∷ rest) l || is_among (parts b ns is) l)
 also_element_in b ns is new j rest h [] = parts_here b ns new ∙ sym (parts_here b ns is)
 also_element_in b ns is new j rest h (name n ∷ l) = parts_member b ns new n l ∙ sym (parts_member b ns is n l)
 also_element_in b ns is new j rest h (index i ∷ l) = parts_element b ns new i l ∙ h.each (index i ∷ l) ∙ ap (λ x. is_location (index j ∷ rest) (index i ∷ l) || x) (sym (parts_element b ns is i l))
 
-pub also_element : (m : Marks) (is : Vec (ℕ × Marks) Global) (j : ℕ) (rest at : Location) → at ≡ index j ∷ rest → HasAlso (marked_in index (out-Marks m).indexes.items) (index j ∷ rest) (marked_in index is.items)
-    → HasAlso (marked m) at (marked (rolled (out-Marks m).here (out-Marks m).names is))
+pub also_element : (m : LocationTrie) (is : Vec (ℕ × LocationTrie) Global) (j : ℕ) (rest at : Location) → at ≡ index j ∷ rest → HasAlso (marked_in index (out-LocationTrie m).indexes.items) (index j ∷ rest) (marked_in index is.items)
+    → HasAlso (marked m) at (marked (rolled (out-LocationTrie m).is_marked (out-LocationTrie m).names is))
 also_element m is j rest at e h = record {
-  each = λ l. ap (λ x. is_among x l) (listed_rolled (out-Marks m).here (out-Marks m).names is)
-      ∙ also_element_in (out-Marks m).here (out-Marks m).names.items (out-Marks m).indexes.items is.items j rest h l
+  each = λ l. ap (λ x. is_among x l) (listed_rolled (out-LocationTrie m).is_marked (out-LocationTrie m).names is)
+      ∙ also_element_in (out-LocationTrie m).is_marked (out-LocationTrie m).names.items (out-LocationTrie m).indexes.items is.items j rest h l
       ∙ ap₂ (λ x y. is_location x l || y) (sym e) (ap (λ x. is_among x l) (sym (listed_out m)));
 }
 
 -- in the entry at a place
-set_step : {K : Type 0} (to : K → Step) (es : List (K × Marks)) (n : ℕ) (e : K × Marks) (w : Marks) (rest : Location) → n < length es → e ≡ get_or es n e → HasAlso (marked e.1) rest (marked w)
+set_step : {K : Type 0} (to : K → Step) (es : List (K × LocationTrie)) (n : ℕ) (e : K × LocationTrie) (w : LocationTrie) (rest : Location) → n < length es → e ≡ get_or es n e → HasAlso (marked e.1) rest (marked w)
     → (s : Step) (l : Location) → marked_in to (set es n (e.0, w)) (s ∷ l) ≡ ((is_same_step (to e.0) s && is_location rest l) || marked_in to es (s ∷ l))
 set_step to [] n e w rest within read h s l = absurd (omega (arith, within))
 set_step {K = K} to (x ∷ es) zero e w rest within read h s l =
     in_step to (e.0, w) es s l ∙ pick (is_same_step (to e.0) s) (is_location rest l) (marked e.1 l) (marked w l) (marked_in to es (s ∷ l)) (h.each l)
-    ∙ ap (λ (y : K × Marks). (is_same_step (to e.0) s && is_location rest l) || ((is_same_step (to y.0) s && marked y.1 l) || marked_in to es (s ∷ l))) read
+    ∙ ap (λ (y : K × LocationTrie). (is_same_step (to e.0) s && is_location rest l) || ((is_same_step (to y.0) s && marked y.1 l) || marked_in to es (s ∷ l))) read
     ∙ ap (λ z. (is_same_step (to e.0) s && is_location rest l) || z) (sym (in_step to x es s l))
   where
     pick : (a b c d r : Bool) → d ≡ (b || c) → ((a && d) || r) ≡ ((a && b) || ((a && c) || r))
@@ -222,7 +222,7 @@ set_step to (x ∷ es) (suc n) e w rest within read h s l =
     pick true false c d e = refl
     pick false b c d e = e
 
-pub also_set : {K : Type 0} (to : K → Step) (es : List (K × Marks)) (n : ℕ) (e : K × Marks) (w : Marks) (s : Step) (rest : Location) → n < length es → e ≡ get_or es n e → to e.0 ≡ s → HasAlso (marked e.1) rest (marked w)
+pub also_set : {K : Type 0} (to : K → Step) (es : List (K × LocationTrie)) (n : ℕ) (e : K × LocationTrie) (w : LocationTrie) (s : Step) (rest : Location) → n < length es → e ≡ get_or es n e → to e.0 ≡ s → HasAlso (marked e.1) rest (marked w)
     → HasAlso (marked_in to es) (s ∷ rest) (marked_in to (set es n (e.0, w)))
 also_set to es n e w s rest within read is h = record { each = each }
   where
@@ -231,7 +231,7 @@ also_set to es n e w s rest within read is h = record { each = each }
     each (t ∷ l) = set_step to es n e w rest within read h t l ∙ ap (λ r. (is_same_step r t && is_location rest l) || marked_in to es (t ∷ l)) is
 
 -- in one entry more
-pub also_push : {K : Type 0} (to : K → Step) (es fs : List (K × Marks)) (k : K) (empty w : Marks) (s : Step) (rest : Location) → fs ≡ es ++ (k, w) ∷ [] → listed empty ≡ [] → to k ≡ s → HasAlso (marked empty) rest (marked w)
+pub also_push : {K : Type 0} (to : K → Step) (es fs : List (K × LocationTrie)) (k : K) (empty w : LocationTrie) (s : Step) (rest : Location) → fs ≡ es ++ (k, w) ∷ [] → listed empty ≡ [] → to k ≡ s → HasAlso (marked empty) rest (marked w)
     → HasAlso (marked_in to es) (s ∷ rest) (marked_in to fs)
 also_push to es fs k empty w s rest now none is h = record { each = each }
   where
@@ -257,21 +257,21 @@ lookup-alike test query h [] = refl
 lookup-alike test query h (e ∷ es) = rw (h e.0, lookup-alike test query h es)
 
 -- no step stands twice
-abbrev pub AreKeys : {K : Type 0} → (K → Step) → List (K × Marks) → Type 0
+abbrev pub AreKeys : {K : Type 0} → (K → Step) → List (K × LocationTrie) → Type 0
 AreKeys to [] = Unit {0}
 AreKeys to (e ∷ es) = (lookup (is_key to (to e.0)) es ≡ None) × AreKeys to es
 
-none_above : {K : Type 0} (to : K → Step) (compare : K → K → Ordering) → TestsSteps to compare → (k : K) (es : List (K × Marks)) → AllByRecursion (λ l. compare k l ≡ Less) (keys_of es) → lookup (is_key to (to k)) es ≡ None
+none_above : {K : Type 0} (to : K → Step) (compare : K → K → Ordering) → TestsSteps to compare → (k : K) (es : List (K × LocationTrie)) → AllByRecursion (λ l. compare k l ≡ Less) (keys_of es) → lookup (is_key to (to k)) es ≡ None
 none_above to compare test k [] h = refl
 none_above to compare test k (e ∷ es) h = rw (← test k e.0, h.0) (none_above to compare test k es h.1)
 
-pub are_keys : {K : Type 0} (to : K → Step) (compare : K → K → Ordering) → TestsSteps to compare → (es : List (K × Marks)) → IsStrictlySortedBy compare (keys_of es) → AreKeys to es
+pub are_keys : {K : Type 0} (to : K → Step) (compare : K → K → Ordering) → TestsSteps to compare → (es : List (K × LocationTrie)) → IsStrictlySortedBy compare (keys_of es) → AreKeys to es
 unfolding IsStrictlySortedBy
 are_keys to compare test [] h = tt
 are_keys to compare test (e ∷ es) h = (none_above to compare test e.0 es h.0, are_keys to compare test es h.1)
 
 -- where no step stands twice, the marks below a step are those of one entry
-pub not_held : {K : Type 0} (to : K → Step) (es : List (K × Marks)) (s : Step) (l : Location) → lookup (is_key to s) es ≡ None → marked_in to es (s ∷ l) ≡ false
+pub not_held : {K : Type 0} (to : K → Step) (es : List (K × LocationTrie)) (s : Step) (l : Location) → lookup (is_key to s) es ≡ None → marked_in to es (s ∷ l) ≡ false
 not_held to [] s l h = refl
 not_held to (e ∷ es) s l h = pick (is_key to s e.0) refl h (not_held to es s l)
   where
@@ -279,7 +279,7 @@ not_held to (e ∷ es) s l h = pick (is_key to s e.0) refl h (not_held to es s l
     pick true same none more = absurd cc
     pick false other none more = in_step to e es s l ∙ rw (flipped (to e.0) s other, more none)
 
-pub held_once : {K : Type 0} (to : K → Step) (es : List (K × Marks)) → AreKeys to es → (s : Step) (l : Location) → marked_in to es (s ∷ l) ≡ marked_below to es (s ∷ l)
+pub held_once : {K : Type 0} (to : K → Step) (es : List (K × LocationTrie)) → AreKeys to es → (s : Step) (l : Location) → marked_in to es (s ∷ l) ≡ marked_below to es (s ∷ l)
 held_once to [] keys s l = refl
 held_once to (e ∷ es) keys s l = in_step to e es s l ∙ pick (is_key to s e.0) refl (held_once to es keys.1 s l)
   where
@@ -299,7 +299,7 @@ key_apart to s test same k t other e =
     let is : s ≡ to k = same_step s (to k) (sym (same k) ∙ e) in
     flipped t (to k) (ap (λ r. is_same_step r t) (sym is) ∙ other)
 
-pub insert_found : {K : Type 0} (to : K → Step) (compare : K → K → Ordering) → TestsSteps to compare → (k : K) (es : List (K × Marks)) (w : Marks) → lookup (is_key to (to k)) (insert_entry compare es k w) ≡ Some w
+pub insert_found : {K : Type 0} (to : K → Step) (compare : K → K → Ordering) → TestsSteps to compare → (k : K) (es : List (K × LocationTrie)) (w : LocationTrie) → lookup (is_key to (to k)) (insert_entry compare es k w) ≡ Some w
 insert_found to compare test k [] w = rw (step_itself (to k))
 insert_found to compare test k (e ∷ es) w = pick (compare k e.0) refl (insert_found to compare test k es w)
   where
@@ -308,7 +308,7 @@ insert_found to compare test k (e ∷ es) w = pick (compare k e.0) refl (insert_
     pick Equal o more = let same : is_key to (to k) e.0 ≡ true = sym (test k e.0) ∙ ap is_eq o in rw same
     pick Greater o more = let other : is_key to (to k) e.0 ≡ false = sym (test k e.0) ∙ ap is_eq o in rw other more
 
-pub insert_apart : {K : Type 0} (to : K → Step) (compare : K → K → Ordering) → TestsSteps to compare → (k : K) (t : Step) (es : List (K × Marks)) (w : Marks) → is_same_step (to k) t ≡ false → lookup (is_key to t) (insert_entry compare es k w) ≡ lookup (is_key to t) es
+pub insert_apart : {K : Type 0} (to : K → Step) (compare : K → K → Ordering) → TestsSteps to compare → (k : K) (t : Step) (es : List (K × LocationTrie)) (w : LocationTrie) → is_same_step (to k) t ≡ false → lookup (is_key to t) (insert_entry compare es k w) ≡ lookup (is_key to t) es
 insert_apart to compare test k t [] w h = rw (flipped t (to k) h)
 insert_apart to compare test k t (e ∷ es) w h = pick (compare k e.0) refl (insert_apart to compare test k t es w h)
   where
@@ -317,14 +317,14 @@ insert_apart to compare test k t (e ∷ es) w h = pick (compare k e.0) refl (ins
     pick Equal o more = rw (key_apart to (to k) (λ l. is_eq (compare k l)) (test k) e.0 t h (ap is_eq o))
     pick Greater o more = ap (λ x. cond (is_key to t e.0) (Some e.1) x) more
 
-pub marked_member : (m : Marks) → AreKeys to_member (out-Marks m).names.items → (k : List ℕ) (l : Location) → marked m (name k ∷ l) ≡ marked_below to_member (out-Marks m).names.items (name k ∷ l)
-marked_member m keys k l = ap (λ x. is_among x (name k ∷ l)) (listed_out m) ∙ parts_member (out-Marks m).here (out-Marks m).names.items (out-Marks m).indexes.items k l ∙ held_once to_member (out-Marks m).names.items keys (name k) l
+pub marked_member : (m : LocationTrie) → AreKeys to_member (out-LocationTrie m).names.items → (k : List ℕ) (l : Location) → marked m (name k ∷ l) ≡ marked_below to_member (out-LocationTrie m).names.items (name k ∷ l)
+marked_member m keys k l = ap (λ x. is_among x (name k ∷ l)) (listed_out m) ∙ parts_member (out-LocationTrie m).is_marked (out-LocationTrie m).names.items (out-LocationTrie m).indexes.items k l ∙ held_once to_member (out-LocationTrie m).names.items keys (name k) l
 
-pub marked_element : (m : Marks) → AreKeys index (out-Marks m).indexes.items → (i : ℕ) (l : Location) → marked m (index i ∷ l) ≡ marked_below index (out-Marks m).indexes.items (index i ∷ l)
-marked_element m keys i l = ap (λ x. is_among x (index i ∷ l)) (listed_out m) ∙ parts_element (out-Marks m).here (out-Marks m).names.items (out-Marks m).indexes.items i l ∙ held_once index (out-Marks m).indexes.items keys (index i) l
+pub marked_element : (m : LocationTrie) → AreKeys index (out-LocationTrie m).indexes.items → (i : ℕ) (l : Location) → marked m (index i ∷ l) ≡ marked_below index (out-LocationTrie m).indexes.items (index i ∷ l)
+marked_element m keys i l = ap (λ x. is_among x (index i ∷ l)) (listed_out m) ∙ parts_element (out-LocationTrie m).is_marked (out-LocationTrie m).names.items (out-LocationTrie m).indexes.items i l ∙ held_once index (out-LocationTrie m).indexes.items keys (index i) l
 
 -- where none are there, empty ones stand for them
-pub marked_or : (o : Option Marks) (empty : Marks) → listed empty ≡ [] → (l : Location) → marked (unwrap_or o empty) l ≡ marked_by o l
+pub marked_or : (o : Option LocationTrie) (empty : LocationTrie) → listed empty ≡ [] → (l : Location) → marked (unwrap_or o empty) l ≡ marked_by o l
 marked_or None empty none l = ap (λ x. is_among x l) none
 marked_or (Some m) empty none l = refl
 
@@ -336,26 +336,26 @@ later_key j n h i le = ne_eqb i n (λ e. omega (arith, e, le, less))
     less : j < n
     less = ranked j n Less (sym h)
 
-later_keys : (j : ℕ) (es : List (ℕ × Marks)) → AllByRecursion (λ l. nat_cmp j l ≡ Less) (keys_of es) → (i : ℕ) → i ≤ j → lookup (is_key index (index i)) es ≡ None
+later_keys : (j : ℕ) (es : List (ℕ × LocationTrie)) → AllByRecursion (λ l. nat_cmp j l ≡ Less) (keys_of es) → (i : ℕ) → i ≤ j → lookup (is_key index (index i)) es ≡ None
 later_keys j [] h i le = refl
 later_keys j (e ∷ es) h i le = rw (later_key j e.0 h.0 i le) (later_keys j es h.1 i le)
 
 -- no index below this one is a key
-pub record IsFrom (es : List (ℕ × Marks)) (next : ℕ) : Type 0 where
+pub record IsFrom (es : List (ℕ × LocationTrie)) (next : ℕ) : Type 0 where
   pub each : (i : ℕ) → i < next → lookup (is_key index (index i)) es ≡ None
 
-pub from_rest : (e : ℕ × Marks) (es : List (ℕ × Marks)) (next : ℕ) → IsFrom (e ∷ es) next → IsFrom es next
+pub from_rest : (e : ℕ × LocationTrie) (es : List (ℕ × LocationTrie)) (next : ℕ) → IsFrom (e ∷ es) next → IsFrom es next
 from_rest e es next h = record { each = λ i lt. later (is_key index (index i) e.0) (lookup (is_key index (index i)) es) (h.each i lt) }
   where
-    later : (b : Bool) (o : Option Marks) → cond b (Some e.1) o ≡ None → o ≡ None
+    later : (b : Bool) (o : Option LocationTrie) → cond b (Some e.1) o ≡ None → o ≡ None
     later true o h = absurd cc
     later false o h = h
 
-pub from_after : (j : ℕ) (m : Marks) (es : List (ℕ × Marks)) → IsStrictlySortedBy nat_cmp (keys_of ((j, m) ∷ es)) → IsFrom es (j + 1)
+pub from_after : (j : ℕ) (m : LocationTrie) (es : List (ℕ × LocationTrie)) → IsStrictlySortedBy nat_cmp (keys_of ((j, m) ∷ es)) → IsFrom es (j + 1)
 unfolding IsStrictlySortedBy
 from_after j m es h = record { each = λ i lt. later_keys j es h.0 i (omega (arith, lt)) }
 
-pub from_at_most : (j : ℕ) (m : Marks) (es : List (ℕ × Marks)) (next : ℕ) → IsFrom ((j, m) ∷ es) next → next ≤ j
+pub from_at_most : (j : ℕ) (m : LocationTrie) (es : List (ℕ × LocationTrie)) (next : ℕ) → IsFrom ((j, m) ∷ es) next → next ≤ j
 from_at_most j m es next h = pick (ltb j next) refl
   where
     pick : (b : Bool) → ltb j next ≡ b → next ≤ j
@@ -366,13 +366,13 @@ from_at_most j m es next h = pick (ltb j next) refl
     pick false e = ltb-false j next e
 
 -- the marks hold no index below this one
-pub record HoldsNoneBelow (es : List (ℕ × Marks)) (next : ℕ) : Type 0 where
+pub record HoldsNoneBelow (es : List (ℕ × LocationTrie)) (next : ℕ) : Type 0 where
   pub each : (i : ℕ) → i < next → marked_by (lookup (is_key index (index i)) es) [] ≡ false
 
 pub none_held : (next : ℕ) → HoldsNoneBelow [] next
 none_held next = record { each = λ i lt. refl }
 
-pub none_before : (j : ℕ) (m : Marks) (es : List (ℕ × Marks)) → IsFrom es (j + 1) → HoldsNoneBelow ((j, m) ∷ es) j
+pub none_before : (j : ℕ) (m : LocationTrie) (es : List (ℕ × LocationTrie)) → IsFrom es (j + 1) → HoldsNoneBelow ((j, m) ∷ es) j
 none_before j m es h = record { each = each }
   where
     each : (i : ℕ) → i < j → marked_by (lookup (is_key index (index i)) ((j, m) ∷ es)) [] ≡ false

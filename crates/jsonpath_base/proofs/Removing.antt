@@ -4,7 +4,7 @@ use Rattle.std.proofs.lemmas.List.{take_more_set, take-set, take-set-le, drop-se
 use Rattle.std.proofs.lemmas.Map.{NonePasses, none_passes_from_lookup}
 use Rattle.std.proofs.lemmas.Map.Text.{is_eq-slice_cmp}
 use Rattle.std.proofs.lemmas.Slice.Eq.{bytes_eq-Decides}
-use Rattle.jsonpath_base.specs.Prelude.{AllByRecursion, array, as_array, as_object, boolean, Data, data_thinned, index, is_at, is_key, IsStrictlySortedBy, item, Items, items_thinned, items_view, keys_of, Location, lookup, marked, marked_below, Marks, members_thinned, members_view, name, no_items, remove_entry, set_value, sieved, slice_cmp, Step, string, thinned_below, to_member, Value, view}
+use Rattle.jsonpath_base.specs.Prelude.{AllByRecursion, array, as_array, as_object, boolean, Data, data_thinned, index, is_at, is_key, IsStrictlySortedBy, item, Items, items_thinned, items_view, keys_of, Location, lookup, marked, marked_below, LocationTrie, members_thinned, members_view, name, no_items, remove_entry, set_value, sieved, slice_cmp, Step, string, thinned_below, to_member, Value, view}
 use Rattle.serde_json.specs.Data.{null, number, object, Members, no_members, member}
 use Rattle.serde_json.proofs.Views.{Entry}
 use Rattle.jsonpath_base.specs.inner.Thinning.{thinned_by}
@@ -78,14 +78,14 @@ none_below i no_items = refl
 none_below i (item d ds) = ap (item d) (none_below (suc i) ds)
 
 -- an index that is not here changes nothing
-past_below : (j : ℕ) (m : Marks) (es : List (ℕ × Marks)) (i : ℕ) (ds : Items) → j < i → thinned_below ((j, m) ∷ es) i ds ≡ thinned_below es i ds
+past_below : (j : ℕ) (m : LocationTrie) (es : List (ℕ × LocationTrie)) (i : ℕ) (ds : Items) → j < i → thinned_below ((j, m) ∷ es) i ds ≡ thinned_below es i ds
 past_below j m es i no_items h = refl
 past_below j m es i (item d ds) h =
     let other : nat_eq i j ≡ false = ne_eqb i j (λ e. omega (arith, h, e)) in
     rw (other, past_below j m es (suc i) ds (omega (arith, h)))
 
 -- one element more is as its marks say
-pub write_below : (vs : List Value) (n i j : ℕ) (x w : Value) (m : Marks) (es : List (ℕ × Marks)) → j ≡ i + n → n < length vs → x ≡ get_or vs n x → lookup (is_key index (index j)) es ≡ None
+pub write_below : (vs : List Value) (n i j : ℕ) (x w : Value) (m : LocationTrie) (es : List (ℕ × LocationTrie)) → j ≡ i + n → n < length vs → x ≡ get_or vs n x → lookup (is_key index (index j)) es ≡ None
     → marked m [] ≡ false → view w ≡ data_thinned (marked m) (view x) → thinned_below es i (items_view (set vs n w)) ≡ thinned_below ((j, m) ∷ es) i (items_view vs)
 write_below [] n i j x w m es at within read none here made = absurd (omega (arith, within))
 write_below (v ∷ vs) zero i j x w m es at within read none here made =
@@ -99,14 +99,14 @@ write_below (v ∷ vs) (suc n) i j x w m es at within read none here made =
     rw test (ap (item (thinned_by (lookup (is_key index (index i)) es) (view v))) (write_below vs n (suc i) j x w m es (omega (arith, at)) (omega (arith, within)) read none here made))
 
 -- an index past the end
-pub beyond_below : (vs : List Value) (i j : ℕ) (m : Marks) (es : List (ℕ × Marks)) → i + length vs ≤ j → thinned_below ((j, m) ∷ es) i (items_view vs) ≡ thinned_below es i (items_view vs)
+pub beyond_below : (vs : List Value) (i j : ℕ) (m : LocationTrie) (es : List (ℕ × LocationTrie)) → i + length vs ≤ j → thinned_below ((j, m) ∷ es) i (items_view vs) ≡ thinned_below es i (items_view vs)
 beyond_below [] i j m es h = refl
 beyond_below (v ∷ vs) i j m es h =
     let test : nat_eq i j ≡ false = ne_eqb i j (λ e. omega (arith, h, e)) in
     rw (test, beyond_below vs (suc i) j m es (omega (arith, h)))
 
 -- an element that goes itself
-pub here_below : (j : ℕ) (m : Marks) (es : List (ℕ × Marks)) → lookup (is_key index (index j)) es ≡ None → marked m [] ≡ true → (i : ℕ) (ds : Items) → thinned_below es i ds ≡ thinned_below ((j, m) ∷ es) i ds
+pub here_below : (j : ℕ) (m : LocationTrie) (es : List (ℕ × LocationTrie)) → lookup (is_key index (index j)) es ≡ None → marked m [] ≡ true → (i : ℕ) (ds : Items) → thinned_below es i ds ≡ thinned_below ((j, m) ∷ es) i ds
 here_below j m es none here i no_items = refl
 here_below j m es none here i (item d ds) = pick (nat_eq i j) refl (here_below j m es none here (suc i) ds)
   where
@@ -117,7 +117,7 @@ here_below j m es none here i (item d ds) = pick (nat_eq i j) refl (here_below j
     pick false e more = rw (e, more)
 
 -- then the elements
-sieve_one : (o : Option Marks) (d : Data) (es : List (ℕ × Marks)) (i : ℕ) (ds : Items) → lookup (is_key index (index i)) es ≡ o → sieved es (suc i) (thinned_below es (suc i) ds) ≡ items_thinned (marked_below index es) (suc i) ds
+sieve_one : (o : Option LocationTrie) (d : Data) (es : List (ℕ × LocationTrie)) (i : ℕ) (ds : Items) → lookup (is_key index (index i)) es ≡ o → sieved es (suc i) (thinned_below es (suc i) ds) ≡ items_thinned (marked_below index es) (suc i) ds
     → sieved es i (thinned_below es i (item d ds)) ≡ items_thinned (marked_below index es) i (item d ds)
 sieve_one None d es i ds e more = rw (e, more, data_kept d)
 sieve_one (Some m) d es i ds e more = pick (marked m []) refl
@@ -126,11 +126,11 @@ sieve_one (Some m) d es i ds e more = pick (marked m []) refl
     pick true here = rw (e, here, more)
     pick false here = rw (e, here, more)
 
-sieve_all : (es : List (ℕ × Marks)) (i : ℕ) (ds : Items) → sieved es i (thinned_below es i ds) ≡ items_thinned (marked_below index es) i ds
+sieve_all : (es : List (ℕ × LocationTrie)) (i : ℕ) (ds : Items) → sieved es i (thinned_below es i ds) ≡ items_thinned (marked_below index es) i ds
 sieve_all es i no_items = refl
 sieve_all es i (item d ds) = sieve_one (lookup (is_key index (index i)) es) d es i ds refl (sieve_all es (suc i) ds)
 
-pub items_end : (es : List (ℕ × Marks)) (now old new : Items) → thinned_below [] 0 now ≡ thinned_below es 0 old → new ≡ sieved es 0 now → new ≡ items_thinned (marked_below index es) 0 old
+pub items_end : (es : List (ℕ × LocationTrie)) (now old new : Items) → thinned_below [] 0 now ≡ thinned_below es 0 old → new ≡ sieved es 0 now → new ≡ items_thinned (marked_below index es) 0 old
 items_end es now old new below is = is ∙ ap (sieved es 0) (sym (none_below 0 now) ∙ below) ∙ sieve_all es 0 old
 
 -- ---- the loop that drops elements
@@ -140,13 +140,13 @@ joined no_items es = es
 joined (item d ds) es = item d (joined ds es)
 
 -- a run of elements that are not held stays
-run_kept : (es : List (ℕ × Marks)) (end : ℕ) → HoldsNoneBelow es end → (run rest : List Value) (i : ℕ) → i + length run ≡ end → joined (items_view run) (sieved es end (items_view rest)) ≡ sieved es i (items_view (run ++ rest))
+run_kept : (es : List (ℕ × LocationTrie)) (end : ℕ) → HoldsNoneBelow es end → (run rest : List Value) (i : ℕ) → i + length run ≡ end → joined (items_view run) (sieved es end (items_view rest)) ≡ sieved es i (items_view (run ++ rest))
 run_kept es end none [] rest i is = let e : end ≡ i = omega (arith, is) in ap (λ k. sieved es k (items_view rest)) e
 run_kept es end none (x ∷ run) rest i is =
     rw (none.each i (omega (arith, is))) (ap (item (view x)) (run_kept es end none run rest (suc i) (omega (arith, is))))
 
 -- and where such a run is moved to those that were kept before
-pub run_moved : (es : List (ℕ × Marks)) (end : ℕ) → HoldsNoneBelow es end → (front rest kept later : List Value) (i : ℕ) → front ++ rest ≡ kept ++ later → i + length front ≡ end + length kept → i ≤ end
+pub run_moved : (es : List (ℕ × LocationTrie)) (end : ℕ) → HoldsNoneBelow es end → (front rest kept later : List Value) (i : ℕ) → front ++ rest ≡ kept ++ later → i + length front ≡ end + length kept → i ≤ end
     → joined (items_view front) (sieved es end (items_view rest)) ≡ joined (items_view kept) (sieved es i (items_view later))
 run_moved es end none front rest [] later i same is le = run_kept es end none front rest i (omega (arith, is)) ∙ ap (λ vs. sieved es i (items_view vs)) same
 run_moved es end none [] rest (k ∷ kept) later i same is le = absurd (omega (arith, is, le))
@@ -181,14 +181,14 @@ move_one (d ∷ more) ys kept i le within is =
     ap₂ (λ a b. a ++ b) front back ∙ append_assoc (take kept xs) (get_or xs i d ∷ []) (drop (i + 1) xs) ∙ ap (λ vs. take kept xs ++ vs) (sym (drop_more xs i d within))
 
 -- the marks before an element hold nothing from it on
-past_sieved : (j : ℕ) (m : Marks) (es : List (ℕ × Marks)) (i : ℕ) (ds : Items) → j < i → sieved ((j, m) ∷ es) i ds ≡ sieved es i ds
+past_sieved : (j : ℕ) (m : LocationTrie) (es : List (ℕ × LocationTrie)) (i : ℕ) (ds : Items) → j < i → sieved ((j, m) ∷ es) i ds ≡ sieved es i ds
 past_sieved j m es i no_items h = refl
 past_sieved j m es i (item d ds) h =
     let other : nat_eq i j ≡ false = ne_eqb i j (λ e. omega (arith, h, e)) in
     rw (other, past_sieved j m es (suc i) ds (omega (arith, h)))
 
 -- an element that is held goes
-pub one_gone : (j : ℕ) (m : Marks) (es : List (ℕ × Marks)) (xs : List Value) → marked m [] ≡ true → j < length xs
+pub one_gone : (j : ℕ) (m : LocationTrie) (es : List (ℕ × LocationTrie)) (xs : List Value) → marked m [] ≡ true → j < length xs
     → sieved es (j + 1) (items_view (drop (j + 1) xs)) ≡ sieved ((j, m) ∷ es) j (items_view (drop j xs))
 one_gone j m es [] here within = absurd (omega (arith, within))
 one_gone j m es (d ∷ more) here within =
@@ -199,7 +199,7 @@ one_gone j m es (d ∷ more) here within =
     sym next
 
 -- an index past the end, or one that is not held
-pub unheld_sieved : (j : ℕ) (m : Marks) (es : List (ℕ × Marks)) (end : ℕ) → (j < end → marked m [] ≡ false) → lookup (is_key index (index j)) es ≡ None
+pub unheld_sieved : (j : ℕ) (m : LocationTrie) (es : List (ℕ × LocationTrie)) (end : ℕ) → (j < end → marked m [] ≡ false) → lookup (is_key index (index j)) es ≡ None
     → (vs : List Value) (i : ℕ) → i + length vs ≤ end → sieved ((j, m) ∷ es) i (items_view vs) ≡ sieved es i (items_view vs)
 unheld_sieved j m es end none absent [] i le = refl
 unheld_sieved j m es end none absent (v ∷ vs) i le = pick (nat_eq i j) refl (unheld_sieved j m es end none absent vs (suc i) (omega (arith, le)))
@@ -211,17 +211,17 @@ unheld_sieved j m es end none absent (v ∷ vs) i le = pick (nat_eq i j) refl (u
         rw (e, later, none (omega (arith, le, same)), more)
     pick false e more = rw (e, more)
 
-pub none_left : (es : List (ℕ × Marks)) (xs : List Value) (kept i : ℕ) (all : Items) → length xs ≤ i → joined (items_view (take kept xs)) (sieved es i (items_view (drop i xs))) ≡ all → items_view (take kept xs) ≡ all
+pub none_left : (es : List (ℕ × LocationTrie)) (xs : List Value) (kept i : ℕ) (all : Items) → length xs ≤ i → joined (items_view (take kept xs)) (sieved es i (items_view (drop i xs))) ≡ all → items_view (take kept xs) ≡ all
 none_left es xs kept i all past h = sym (joined_none _) ∙ ap (λ ys. joined (items_view (take kept xs)) (sieved es i (items_view ys))) (sym (drop_all i xs past)) ∙ h
 
 -- of so many marks those in front are gone through: what is kept so far stands in front, and what is not looked at yet, and is in no
 -- mark before, where it did
-abbrev pub DropsSoFar : List (ℕ × Marks) → List Value → ℕ → List Value → ℕ → ℕ → Type 0
+abbrev pub DropsSoFar : List (ℕ × LocationTrie) → List Value → ℕ → List Value → ℕ → ℕ → Type 0
 DropsSoFar marks start i now gone next =
     (joined (items_view (take (next - gone) now)) (sieved (drop i marks) next (items_view (drop next now))) ≡ sieved marks 0 (items_view start))
     × IsFrom (drop i marks) next × (gone ≤ next) × (next ≤ length now) × (length now ≡ length start)
 
-pub drops_as : (marks : List (ℕ × Marks)) (start : List Value) (i : ℕ) (now new : List Value) (gone next g n : ℕ) → new ≡ now → g ≡ gone → n ≡ next → DropsSoFar marks start i now gone next → DropsSoFar marks start i new g n
+pub drops_as : (marks : List (ℕ × LocationTrie)) (start : List Value) (i : ℕ) (now new : List Value) (gone next g n : ℕ) → new ≡ now → g ≡ gone → n ≡ next → DropsSoFar marks start i now gone next → DropsSoFar marks start i new g n
 drops_as marks start i now new gone next g n e f h d = subst (λ xs. DropsSoFar marks start i xs g n) (sym e) (subst (λ k. DropsSoFar marks start i now k n) (sym f) (subst (DropsSoFar marks start i now gone) (sym h) d))
 
 -- ---- objects
@@ -242,11 +242,11 @@ other_name k l h = pick (bytes_eq (string_bytes l) k) refl
     pick false e = refl
 
 -- a member of another name
-member_other : (k : String Global) (m : Marks) (es : List (String Global × Marks)) (l : String Global) → is_entry (string_bytes k) l ≡ false → (x : Location) → marked_below to_member ((k, m) ∷ es) (name (string_bytes l) ∷ x) ≡ marked_below to_member es (name (string_bytes l) ∷ x)
+member_other : (k : String Global) (m : LocationTrie) (es : List (String Global × LocationTrie)) (l : String Global) → is_entry (string_bytes k) l ≡ false → (x : Location) → marked_below to_member ((k, m) ∷ es) (name (string_bytes l) ∷ x) ≡ marked_below to_member es (name (string_bytes l) ∷ x)
 member_other k m es l h x = rw (other_name (string_bytes k) l h)
 
 -- where no member has the name
-others_thinned : (k : String Global) (m : Marks) (es : List (String Global × Marks)) (ms : List Entry) → NonePasses (is_entry (string_bytes k)) ms
+others_thinned : (k : String Global) (m : LocationTrie) (es : List (String Global × LocationTrie)) (ms : List Entry) → NonePasses (is_entry (string_bytes k)) ms
     → members_thinned (marked_below to_member ((k, m) ∷ es)) (members_view ms) ≡ members_thinned (marked_below to_member es) (members_view ms)
 others_thinned k m es [] h = refl
 others_thinned k m es (e ∷ ms) h =
@@ -255,7 +255,7 @@ others_thinned k m es (e ∷ ms) h =
     rw (member_other k m es e.0 h.0 [], inside, others_thinned k m es ms h.1)
 
 -- a name that no member has changes nothing
-pub absent_thinned : (k : String Global) (m : Marks) (es : List (String Global × Marks)) (ms : List Entry) → lookup (is_entry (string_bytes k)) ms ≡ None
+pub absent_thinned : (k : String Global) (m : LocationTrie) (es : List (String Global × LocationTrie)) (ms : List Entry) → lookup (is_entry (string_bytes k)) ms ≡ None
     → members_thinned (marked_below to_member ((k, m) ∷ es)) (members_view ms) ≡ members_thinned (marked_below to_member es) (members_view ms)
 absent_thinned k m es ms h = others_thinned k m es ms (none_passes_from_lookup (is_entry (string_bytes k)) ms h)
 
@@ -264,7 +264,7 @@ none_after k e [] same h = tt
 none_after k e (f ∷ ms) same h = (ap (λ x. is_eq (slice_cmp nat_cmp x (string_bytes f.0))) (same_name k e.0 same) ∙ ap is_eq h.0, none_after k e ms same h.1)
 
 -- the member goes
-pub removed_thinned : (k : String Global) (m : Marks) (es : List (String Global × Marks)) (ms : List Entry) → lookup (is_entry (string_bytes k)) (remove_entry (is_entry (string_bytes k)) ms) ≡ None → marked m [] ≡ true
+pub removed_thinned : (k : String Global) (m : LocationTrie) (es : List (String Global × LocationTrie)) (ms : List Entry) → lookup (is_entry (string_bytes k)) (remove_entry (is_entry (string_bytes k)) ms) ≡ None → marked m [] ≡ true
     → members_thinned (marked_below to_member es) (members_view (remove_entry (is_entry (string_bytes k)) ms)) ≡ members_thinned (marked_below to_member ((k, m) ∷ es)) (members_view ms)
 removed_thinned k m es [] gone here = refl
 removed_thinned k m es (e ∷ ms) gone here = pick (is_entry (string_bytes k) e.0) refl (λ later. removed_thinned k m es ms later here)
@@ -285,7 +285,7 @@ removed_thinned k m es (e ∷ ms) gone here = pick (is_entry (string_bytes k) e.
         rw (other, member_other k m es e.0 other [], inside, more later)
 
 -- one member more is as its marks say
-pub written_thinned : (k : String Global) (m : Marks) (es : List (String Global × Marks)) (ms : List Entry) (x w : Value) → IsStrictlySortedBy string_cmp (keys_of ms) → lookup (is_entry (string_bytes k)) ms ≡ Some x
+pub written_thinned : (k : String Global) (m : LocationTrie) (es : List (String Global × LocationTrie)) (ms : List Entry) (x w : Value) → IsStrictlySortedBy string_cmp (keys_of ms) → lookup (is_entry (string_bytes k)) ms ≡ Some x
     → lookup (is_key to_member (name (string_bytes k))) es ≡ None → marked m [] ≡ false → view w ≡ data_thinned (marked m) (view x)
     → members_thinned (marked_below to_member es) (members_view (set_value (is_entry (string_bytes k)) ms w)) ≡ members_thinned (marked_below to_member ((k, m) ∷ es)) (members_view ms)
 unfolding IsStrictlySortedBy
@@ -307,5 +307,5 @@ written_thinned k m es (e ∷ ms) x w ordered found none here made = pick (is_en
         let later : lookup (is_entry (string_bytes k)) ms ≡ Some x = sym (rw other) ∙ found in
         rw (other, member_other k m es e.0 other [], inside, more later)
 
-pub members_end : (es : List (String Global × Marks)) (now old : Members) → members_thinned (marked_below to_member []) now ≡ members_thinned (marked_below to_member es) old → now ≡ members_thinned (marked_below to_member es) old
+pub members_end : (es : List (String Global × LocationTrie)) (now old : Members) → members_thinned (marked_below to_member []) now ≡ members_thinned (marked_below to_member es) old → now ≡ members_thinned (marked_below to_member es) old
 members_end es now old h = sym (members_alike (marked_below to_member []) (λ l. false) (λ k l. refl) now ∙ members_kept now) ∙ h

@@ -1,7 +1,7 @@
 pub mod Tree
 pub mod Places
 pub mod Steps
-pub mod FixedPart
+pub mod ConstantPrefix
 pub mod Put
 pub mod Added
 pub mod Pointer
@@ -9,7 +9,7 @@ pub mod Lending
 pub mod Without
 pub mod Remaining
 pub mod Overwritten
-pub mod RemovalViews
+pub mod LocationSetViews
 pub mod Values
 pub mod Pattern
 pub mod PatternViews

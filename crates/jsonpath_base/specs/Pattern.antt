@@ -5,10 +5,10 @@ use Rattle.regex.specs.Patterns.{Re, find_str, default_config}
 use Rattle.regex_syntax.specs.Grammar.{read}
 use Rattle.jsonpath_parser.specs.declared.errors.JsonPathError.{JsonPathError}
 use Rattle.jsonpath_parser.specs.declared.errors.JsonPathError.TheVariants.{OutOfMemory, InvalidJsonPath}
-use Rattle.jsonpath_base.specs.declared.pattern.Extent.{Extent}
-use Rattle.jsonpath_base.specs.declared.pattern.Extent.TheVariants.{Entire, Substring}
-use Rattle.jsonpath_base.specs.declared.pattern.unbuilt.Unbuilt.{Unbuilt}
-use Rattle.jsonpath_base.specs.declared.pattern.unbuilt.Unbuilt.TheVariants.{Memory, TooLarge}
+use Rattle.jsonpath_base.specs.declared.pattern.MatchKind.{MatchKind}
+use Rattle.jsonpath_base.specs.declared.pattern.MatchKind.TheVariants.{Full, Partial}
+use Rattle.jsonpath_base.specs.declared.pattern.build_error.PatternBuildError.{PatternBuildError}
+use Rattle.jsonpath_base.specs.declared.pattern.build_error.PatternBuildError.TheVariants.{Memory, TooLarge}
 
 -- whether a character behind this one stands in a class: `[` opens one, `]` closes it
 abbrev pub is_inside : Bool → ℕ → Bool
@@ -37,9 +37,9 @@ abbrev pub wrapped : List ℕ → List ℕ
 wrapped cs = codes "^(?:" ++ cs ++ codes ")$"
 
 -- whether a pattern has to match the entire text
-abbrev pub is_entire : Extent → Bool
-is_entire Entire = true
-is_entire Substring = false
+abbrev pub is_entire : MatchKind → Bool
+is_entire Full = true
+is_entire Partial = false
 
 -- What is looked for by the translated pattern: with true for `match`, which asks of the entire text, and with false for `search`. For
 -- `match` this has to have a reading alone too: `a)|(b` has none.
@@ -65,9 +65,9 @@ IsInvalid (InvalidJsonPath _) = ⊤
 IsInvalid _ = ⊥
 
 -- why what looks for it cannot be built: memory ran out, or there is something to look for, and `regex` refused it for its size
-abbrev pub IsUnbuilt : Option Re → Unbuilt → Type 0
-IsUnbuilt sought Memory = ⊤
-IsUnbuilt sought TooLarge = IsSome sought
+abbrev pub IsPatternBuildError : Option Re → PatternBuildError → Type 0
+IsPatternBuildError sought Memory = ⊤
+IsPatternBuildError sought TooLarge = IsSome sought
 
 -- the error that a caller is told of it
 abbrev pub IsPatternRefusal : Option Re → JsonPathError → Type 0

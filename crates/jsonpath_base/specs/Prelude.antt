@@ -3,21 +3,21 @@ pub mod Documents
 pub mod States
 pub use Rattle.fast_float.specs.Text.{scan}
 pub use Rattle.jsonpath_base.specs.Added.{added, AddedIndexMovesLater, AddedIsThere, AddedLeavesTheRest, AddedNameLeavesSiblings, takes, takes_at, with_new, with_new_element, with_new_member}
-pub use Rattle.jsonpath_base.specs.declared.marks.Marks.{Marks, the_lemmas}
-pub use Rattle.jsonpath_base.specs.declared.marks.Marks.TheViews.{out-Marks}
+pub use Rattle.jsonpath_base.specs.declared.location_trie.LocationTrie.{LocationTrie, the_lemmas}
+pub use Rattle.jsonpath_base.specs.declared.location_trie.LocationTrie.TheViews.{out-LocationTrie}
 pub use Rattle.jsonpath_base.specs.declared.step.Step.TheVariants.{Index, Name}
 pub use Rattle.jsonpath_base.specs.declared.step.StepRef.{StepRef}
-pub use Rattle.jsonpath_base.specs.FixedPart.{fixed_part}
+pub use Rattle.jsonpath_base.specs.ConstantPrefix.{constant_prefix}
 pub use Rattle.jsonpath_base.specs.inner.Adding.{Adds}
 pub use Rattle.jsonpath_base.specs.inner.Lent.{has_index, index_in, is_entry, LendsMember, name_in, next, rest}
-pub use Rattle.jsonpath_base.specs.inner.Marks.{AddsIn, EndsWith, in_order, is_key, IsJoined, IsSameSet, level_in_order, LevelEnds, listed, listed_in, marked, marked_below, marked_by, marked_in, marks_count, marks_total, set_with, TestsSteps, to_member, total}
+pub use Rattle.jsonpath_base.specs.inner.LocationTries.{AddsIn, EndsWith, in_order, is_key, IsJoined, IsSameSet, level_in_order, LevelEnds, listed, listed_in, marked, marked_below, marked_by, marked_in, marks_count, marks_total, set_with, TestsSteps, to_member, total}
 pub use Rattle.jsonpath_base.specs.inner.Masking.{AreAll, data_below, data_overwritten, items_overwritten, members_overwritten, outermost_count, outermost_total}
 pub use Rattle.jsonpath_parser.specs.inner.Picked.{picked_of}
 pub use Rattle.jsonpath_base.specs.inner.Pointing.{GoesDown, tilde_escaped}
 pub use Rattle.jsonpath_base.specs.inner.Thinning.{data_thinned, items_thinned, members_thinned, sieved, thinned_below}
-pub use Rattle.jsonpath_base.specs.inner.Way.{IsSpelled}
+pub use Rattle.jsonpath_base.specs.inner.CurrentPath.{IsSpelled}
 pub use Rattle.jsonpath_base.specs.Overwritten.{elements_overwritten, overwritten, overwritten_below, OverwrittenAtOneIsPut, OverwrittenForgets, OverwrittenIsSeen, OverwrittenLeavesTheRest}
-pub use Rattle.jsonpath_base.specs.Pattern.{IsUnbuilt}
+pub use Rattle.jsonpath_base.specs.Pattern.{IsPatternBuildError}
 pub use Rattle.jsonpath_base.specs.Places.{at, child, item_at}
 pub use Rattle.jsonpath_base.specs.Pointer.{escaped, led, location_in, pointer, PointerFindsItsPlace, PointerLeadsAsFound, PointerLeadsToWhatIs, PointerReadsBack, step_in, tokens, tokens_from}
 pub use Rattle.jsonpath_base.specs.Put.{put, PutIsSeenAbove, PutIsThere, PutLeavesTheRest, PutNowhere, with_child, with_element, with_member}

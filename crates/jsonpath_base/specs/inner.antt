@@ -1,10 +1,10 @@
 -- What this crate's own contracts and proofs say. No public contract cites it.
 pub mod PatternParts
 pub mod Groups
-pub mod Marks
+pub mod LocationTries
 pub mod Thinning
 pub mod Masking
 pub mod Lent
-pub mod Way
+pub mod CurrentPath
 pub mod Adding
 pub mod Pointing

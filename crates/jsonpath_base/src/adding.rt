@@ -25,7 +25,7 @@ pub fn add_at(
     ensures value { OnOk result (value_tree value.new ≡ added (location_view parent.now) (owned_step step) (value_tree new) (value_tree value.old)) }
     ensures found { IfOk result (λ b. b ≡ takes_at (location_view parent.now) (owned_step step) (value_tree value.old)) }
     ensures unchanged { IfOk result (λ b. b ≡ false → view value.new ≡ view value.old) }
-    ensures kept { OnErr result (view value.new ≡ view value.old) }
+    ensures unchanged_on_error { OnErr result (view value.new ≡ view value.old) }
     ensures memory { IfErr result (λ e. e ≡ JsonPathError.OutOfMemory) }
     ensures whole { IsTrue (value_is_whole value.old) → IsTrue (value_is_whole new) → IsTrue (value_is_whole value.new) }
 {

@@ -20,10 +20,10 @@ pub fn at_mut<'v>(value: &'v mut Value, place: &[Step]) -> Option<&'v mut Value>
     ensures value { option_map (λ v. value_tree v.now) result ≡ places.at (location_view place.now) (value_tree value.old) }
     ensures whole { IsTrue (value_is_whole value.old) → IfSome result (λ v. IsTrue (value_is_whole v.now)) }
 {
-    let left = count(place);
+    let remaining = count(place);
     let found = is_there(value, place);
     if found {
-        return Some(place_mut(value, place, left));
+        return Some(place_mut(value, place, remaining));
     }
     None
 }
@@ -44,30 +44,30 @@ fn is_there(value: &Value, steps: &[Step]) -> bool
 
 /// The value where the steps that are left lead.
 #[cycle(place_mut)]
-fn place_mut<'v>(value: &'v mut Value, steps: &[Step], left: usize) -> &'v mut Value
-    requires { (left ≤ length steps.now) × IsSome (places.at (rest steps.now left) (value_tree value.old)) }
-    ensures* writes_back { sem 𝓛 (LendsRest steps.now left value.entry result) }
-    ensures value { Some (value_tree result.now) ≡ places.at (rest steps.now left) (value_tree value.old) }
+fn place_mut<'v>(value: &'v mut Value, steps: &[Step], remaining: usize) -> &'v mut Value
+    requires { (remaining ≤ length steps.now) × IsSome (places.at (rest steps.now remaining) (value_tree value.old)) }
+    ensures* writes_back { sem 𝓛 (LendsRest steps.now remaining value.entry result) }
+    ensures value { Some (value_tree result.now) ≡ places.at (rest steps.now remaining) (value_tree value.old) }
     ensures whole { IsTrue (value_is_whole value.old) → IsTrue (value_is_whole result.now) }
 {
-    if left == 0 {
+    if remaining == 0 {
         return value;
     }
-    if is_index(steps, left) {
+    if is_index(steps, remaining) {
         let list = list_mut(value);
-        let item = item_at(list, steps, left);
-        return place_mut(item, steps, left - 1);
+        let item = item_at(list, steps, remaining);
+        return place_mut(item, steps, remaining - 1);
     }
     let map = map_mut(value);
-    let member = member_at(map, steps, left);
-    place_mut(member, steps, left - 1)
+    let member = member_at(map, steps, remaining);
+    place_mut(member, steps, remaining - 1)
 }
 
 /// The member of the next step's name, which is there.
-fn member_at<'v>(map: &'v mut Map<String, Value>, steps: &[Step], left: usize) -> &'v mut Value
-    requires { (0 < left) × (left ≤ length steps.now) × IsSome (lookup (is_entry (name_in (next steps.now left))) map.old.entries) }
-    ensures* writes_back { sem 𝓛 (LendsFound (name_in (next steps.now left)) map.entry result) }
-    ensures value { Some result.now ≡ lookup (is_entry (name_in (next steps.now left))) map.old.entries }
+fn member_at<'v>(map: &'v mut Map<String, Value>, steps: &[Step], remaining: usize) -> &'v mut Value
+    requires { (0 < remaining) × (remaining ≤ length steps.now) × IsSome (lookup (is_entry (name_in (next steps.now remaining))) map.old.entries) }
+    ensures* writes_back { sem 𝓛 (LendsFound (name_in (next steps.now remaining)) map.entry result) }
+    ensures value { Some result.now ≡ lookup (is_entry (name_in (next steps.now remaining))) map.old.entries }
 {
-    take(member_by(map, steps, left))
+    take(member_by(map, steps, remaining))
 }

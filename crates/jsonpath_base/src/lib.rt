@@ -4,13 +4,14 @@
 #![tactic(auto)]
 
 mod adding;
+mod current_path;
 pub mod documents;
 pub mod engine;
 mod equality;
 pub mod laws;
 mod lending;
 mod location;
-mod marks;
+mod location_trie;
 mod masking;
 mod ordering;
 mod pattern;
@@ -21,14 +22,13 @@ mod set_functions;
 mod size;
 mod step;
 mod value;
-mod way;
 
 pub use adding::add_at;
 pub use equality::same;
 pub use jsonpath_parser::{SlicePlaces, picked, slice_places, text_length, text_less};
 pub use lending::at_mut;
-pub use location::{fixed_steps, path_of, starts_with};
-pub use pattern::{Extent, Finder, Pattern, found};
+pub use location::{constant_prefix, path_of, starts_with};
+pub use pattern::{Finder, MatchKind, Pattern, found};
 pub use place::{at, put_at, take_at};
 pub use pointer::{location_by_pointer, pointer_of, step_by_token};
 pub use removal::{remove_all, replace_all};

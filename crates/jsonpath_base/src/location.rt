@@ -1,11 +1,11 @@
 //! Locations as values: whether one begins with another, the Normalized Path of each (RFC 9535, 2.7), and the one at the front of a
 //! query.
 ghost use Rattle.std.specs.Prelude.{◌≡◌, ◌↔◌, ◌++◌, IfErr, IfOk, IsTrue, OnOk, map, option_map, string_bytes};
-ghost use Rattle.jsonpath_base.specs.Prelude.{Begins, fixed_part, location_view, owned_step, segment_view, segments_of, step_text};
+ghost use Rattle.jsonpath_base.specs.Prelude.{Begins, constant_prefix, location_view, owned_step, segment_view, segments_of, step_text};
 ghost use Rattle.jsonpath_parser.specs.Normal.{IsNormal};
 ghost use Rattle.jsonpath_parser.specs.tree.Syntax as syntax;
 ghost use Rattle.jsonpath_parser.specs.tree.View.{query_view, selector_view};
-ghost use Rattle.jsonpath_base.specs.FixedPart.{fixed_step};
+ghost use Rattle.jsonpath_base.specs.ConstantPrefix.{fixed_step};
 
 use crate::step::{Step, add_index, add_name};
 use jsonpath_parser::errors::{JsonPathError, Parsed};
@@ -57,8 +57,8 @@ fn add_step(alloc: Global, path: &mut String, step: &Step) -> Parsed<()>
 /// # Errors
 ///
 /// `OutOfMemory` where memory ran out.
-pub fn fixed_steps(alloc: Global, query: &JpQuery) -> Parsed<Vec<Step>>
-    ensures steps { IfOk result (λ v. location_view v.items ≡ fixed_part (query_view query.now)) }
+pub fn constant_prefix(alloc: Global, query: &JpQuery) -> Parsed<Vec<Step>>
+    ensures steps { IfOk result (λ v. location_view v.items ≡ constant_prefix (query_view query.now)) }
     ensures memory { IfErr result (λ e. e ≡ JsonPathError.OutOfMemory) }
 {
     leading_steps(alloc, &query.segments)
@@ -66,7 +66,7 @@ pub fn fixed_steps(alloc: Global, query: &JpQuery) -> Parsed<Vec<Step>>
 
 /// The steps of the leading segments, up to the first that is none.
 fn leading_steps(alloc: Global, segments: &[Segment]) -> Parsed<Vec<Step>>
-    ensures value { IfOk result (λ v. location_view v.items ≡ fixed_part (segments_of (map segment_view segments.now))) }
+    ensures value { IfOk result (λ v. location_view v.items ≡ constant_prefix (segments_of (map segment_view segments.now))) }
     ensures memory { IfErr result (λ e. e ≡ JsonPathError.OutOfMemory) }
 {
     let mut steps = Vec::new(alloc);

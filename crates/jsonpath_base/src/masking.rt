@@ -5,13 +5,17 @@ ghost use Rattle.std.specs.Vec.{vec_len};
 ghost use Rattle.jsonpath_parser.specs.Location as location;
 ghost use Rattle.jsonpath_base.specs.inner.Masking.{IsFilledAt, IsFilledBy};
 
-use crate::marks::Marks;
+use crate::location_trie::LocationTrie;
 use crate::ordering::sum;
 use serde_json::{Map, Value};
 use std::alloc::{AllocError, Global};
 
 /// Copies of a value, one for each outermost location of the marks.
-pub fn copies_for(alloc: Global, marks: &Marks, value: &Value) -> Result<Vec<Value>, AllocError>
+pub fn copies_for(
+    alloc: Global,
+    marks: &LocationTrie,
+    value: &Value,
+) -> Result<Vec<Value>, AllocError>
     ensures alike { IfOk result (λ v. AreAll (view value.now) v.items) }
     ensures enough { IfOk result (λ v. vec_len v ≡ outermost_count marks.now) }
 {
@@ -26,10 +30,10 @@ pub fn copies_for(alloc: Global, marks: &Marks, value: &Value) -> Result<Vec<Val
 
 /// How many of the marked locations lie inside no other.
 #[cycle(outermost)]
-fn outermost(marks: &Marks) -> Result<usize, AllocError>
+fn outermost(marks: &LocationTrie) -> Result<usize, AllocError>
     ensures { IfOk result (λ n. n ≡ outermost_count marks.now) }
 {
-    if marks.here {
+    if marks.is_marked {
         return Ok(1);
     }
     let names = outermost_members(&marks.names)?;
@@ -39,7 +43,7 @@ fn outermost(marks: &Marks) -> Result<usize, AllocError>
 
 /// The same of the locations below members.
 #[cycle(outermost)]
-fn outermost_members(below: &[(String, Marks)]) -> Result<usize, AllocError>
+fn outermost_members(below: &[(String, LocationTrie)]) -> Result<usize, AllocError>
     ensures { IfOk result (λ n. n ≡ outermost_total below.now) }
 {
     let mut count = 0;
@@ -52,7 +56,7 @@ fn outermost_members(below: &[(String, Marks)]) -> Result<usize, AllocError>
 
 /// The same of the locations below elements.
 #[cycle(outermost)]
-fn outermost_elements(below: &[(usize, Marks)]) -> Result<usize, AllocError>
+fn outermost_elements(below: &[(usize, LocationTrie)]) -> Result<usize, AllocError>
     ensures { IfOk result (λ n. n ≡ outermost_total below.now) }
 {
     let mut count = 0;
@@ -65,14 +69,14 @@ fn outermost_elements(below: &[(usize, Marks)]) -> Result<usize, AllocError>
 
 /// Puts one of the copies in the place of each value that is marked and lies inside no other that is. It takes no memory.
 #[cycle(fill)]
-pub fn fill(value: &mut Value, marks: &Marks, copies: &mut Vec<Value>)
+pub fn fill(value: &mut Value, marks: &LocationTrie, copies: &mut Vec<Value>)
     requires ordered { IsTrue (in_order marks.now) }
     requires enough { outermost_count marks.now ≤ vec_len copies.old }
     ensures filled { (u : Data) → AreAll u copies.old.items → view value.new ≡ data_overwritten (marked marks.now) u (view value.old) }
     ensures alike { (u : Data) → AreAll u copies.old.items → AreAll u copies.new.items }
     ensures fewer { vec_len copies.old ≤ vec_len copies.new + outermost_count marks.now }
 {
-    if marks.here {
+    if marks.is_marked {
         put_copy(value, copies);
         return;
     }
@@ -85,7 +89,7 @@ pub fn fill(value: &mut Value, marks: &Marks, copies: &mut Vec<Value>)
 
 /// Does so in a list.
 #[cycle(fill)]
-fn fill_items(items: &mut Vec<Value>, marks: &[(usize, Marks)], copies: &mut Vec<Value>)
+fn fill_items(items: &mut Vec<Value>, marks: &[(usize, LocationTrie)], copies: &mut Vec<Value>)
     requires ordered { IsTrue (level_in_order nat_cmp marks.now) }
     requires enough { outermost_total marks.now ≤ vec_len copies.old }
     ensures filled { (u : Data) → AreAll u copies.old.items → items_view items.new.items ≡ items_overwritten (marked_below location.index marks.now) u 0 (items_view items.old.items) }
@@ -99,7 +103,7 @@ fn fill_items(items: &mut Vec<Value>, marks: &[(usize, Marks)], copies: &mut Vec
 
 /// Does so at an element, if the list is long enough.
 #[cycle(fill)]
-fn fill_item(items: &mut Vec<Value>, index: usize, marks: &Marks, copies: &mut Vec<Value>)
+fn fill_item(items: &mut Vec<Value>, index: usize, marks: &LocationTrie, copies: &mut Vec<Value>)
     requires ordered { IsTrue (in_order marks.now) }
     requires enough { outermost_count marks.now ≤ vec_len copies.old }
     ensures filled { (u : Data) → AreAll u copies.old.items → IsFilledAt index marks.now u (items_view items.old.items) (items_view items.new.items) }
@@ -115,7 +119,7 @@ fn fill_item(items: &mut Vec<Value>, index: usize, marks: &Marks, copies: &mut V
 #[cycle(fill)]
 fn fill_members(
     members: &mut Map<String, Value>,
-    marks: &[(String, Marks)],
+    marks: &[(String, LocationTrie)],
     copies: &mut Vec<Value>,
 )
     requires ordered { IsTrue (level_in_order string_cmp marks.now) }
@@ -134,7 +138,7 @@ fn fill_members(
 fn fill_member(
     members: &mut Map<String, Value>,
     name: &String,
-    marks: &Marks,
+    marks: &LocationTrie,
     copies: &mut Vec<Value>,
 )
     requires ordered { IsTrue (in_order marks.now) }

@@ -2,27 +2,30 @@
 ghost use Rattle.std.specs.Prelude.{◌≡◌, ◌≤◌, ◌+◌, ◌++◌, true, if◌then◌else◌, IfOk, OnOk, IsTrue, string_cmp};
 ghost use Rattle.jsonpath_base.specs.Prelude.{distinct_count, in_order, IsJoined, IsSameSet, IsStrictlySortedBy, keys_of, level_in_order, listed, listed_in, marked, marked_in, marks_count, marks_total, nat_cmp, to_member};
 ghost use Rattle.jsonpath_parser.specs.Location as location;
-ghost use Rattle.jsonpath_base.specs.inner.Marks.{HoldsSame};
+ghost use Rattle.jsonpath_base.specs.inner.LocationTries.{HoldsSame};
 
-use crate::marks::Marks;
+use crate::location_trie::LocationTrie;
 use std::alloc::{AllocError, Global};
 use std::mem;
 
 /// Puts marks in order. The result says how many locations they hold.
 #[cycle(order)]
-pub fn put_in_order(alloc: Global, marks: &mut Marks) -> Result<usize, AllocError>
+pub fn put_in_order(alloc: Global, marks: &mut LocationTrie) -> Result<usize, AllocError>
     ensures same { OnOk result (IsSameSet (marked marks.old) (marked marks.new)) }
     ensures ordered { OnOk result (IsTrue (in_order marks.new)) }
     ensures count { IfOk result (λ n. n ≡ distinct_count (listed marks.new)) }
 {
     let names = order_members(alloc, &mut marks.names)?;
     let indexes = order_elements(alloc, &mut marks.indexes)?;
-    sum(ones(marks.here), sum(names, indexes)?)
+    sum(ones(marks.is_marked), sum(names, indexes)?)
 }
 
 /// Puts the marks below members in order. The result says how many locations they hold.
 #[cycle(order)]
-fn order_members(alloc: Global, below: &mut Vec<(String, Marks)>) -> Result<usize, AllocError>
+fn order_members(
+    alloc: Global,
+    below: &mut Vec<(String, LocationTrie)>,
+) -> Result<usize, AllocError>
     ensures same { OnOk result (IsSameSet (marked_in to_member below.old.items) (marked_in to_member below.new.items)) }
     ensures ordered { OnOk result (IsTrue (level_in_order string_cmp below.new.items)) }
     ensures count { IfOk result (λ n. n ≡ distinct_count (listed_in to_member below.new.items)) }
@@ -38,7 +41,10 @@ fn order_members(alloc: Global, below: &mut Vec<(String, Marks)>) -> Result<usiz
 
 /// Puts the marks below elements in order. The result says how many locations they hold.
 #[cycle(order)]
-fn order_elements(alloc: Global, below: &mut Vec<(usize, Marks)>) -> Result<usize, AllocError>
+fn order_elements(
+    alloc: Global,
+    below: &mut Vec<(usize, LocationTrie)>,
+) -> Result<usize, AllocError>
     ensures same { OnOk result (IsSameSet (marked_in location.index below.old.items) (marked_in location.index below.new.items)) }
     ensures ordered { OnOk result (IsTrue (level_in_order nat_cmp below.new.items)) }
     ensures count { IfOk result (λ n. n ≡ distinct_count (listed_in location.index below.new.items)) }
@@ -53,10 +59,10 @@ fn order_elements(alloc: Global, below: &mut Vec<(usize, Marks)>) -> Result<usiz
 }
 
 /// One, if the location with no step is held.
-fn ones(here: bool) -> usize
-    ensures { result ≡ (if here then 1 else 0) }
+fn ones(is_marked: bool) -> usize
+    ensures { result ≡ (if is_marked then 1 else 0) }
 {
-    if here { 1 } else { 0 }
+    if is_marked { 1 } else { 0 }
 }
 
 /// The sum. No memory holds so many marks that it is refused.
@@ -71,7 +77,10 @@ pub fn sum(left: usize, right: usize) -> Result<usize, AllocError>
 
 /// Puts entries in the order of their keys, and joins those of one key, in place. Where they are in order it takes linear time.
 /// Runs of keys that rise are merged, as the two of `..*`.
-fn order_keys<K: Ord + Drop>(alloc: Global, entries: &mut Vec<(K, Marks)>) -> Result<(), AllocError>
+fn order_keys<K: Ord + Drop>(
+    alloc: Global,
+    entries: &mut Vec<(K, LocationTrie)>,
+) -> Result<(), AllocError>
     ensures sorted { OnOk result (IsStrictlySortedBy K.cmp (keys_of entries.new.items)) }
     ensures same { OnOk result (HoldsSame K.cmp entries.old.items entries.new.items) }
     ensures fewer { OnOk result (marks_total entries.new.items ≤ marks_total entries.old.items) }
@@ -80,22 +89,22 @@ fn order_keys<K: Ord + Drop>(alloc: Global, entries: &mut Vec<(K, Marks)>) -> Re
         return Ok(());
     }
     entries.sort_by(|left, right| left.0.cmp(&right.0))?;
-    let mut kept = 0;
+    let mut unique = 0;
     for next in 1..entries.len() {
-        if entries[next].0.cmp(&entries[kept].0).is_eq() {
-            let marks = mem::replace(&mut entries[next].1, Marks::new(alloc));
-            join(&mut entries[kept].1, marks)?;
+        if entries[next].0.cmp(&entries[unique].0).is_eq() {
+            let marks = mem::replace(&mut entries[next].1, LocationTrie::new(alloc));
+            join(&mut entries[unique].1, marks)?;
             continue;
         }
-        kept += 1;
-        entries.swap(next, kept);
+        unique += 1;
+        entries.swap(next, unique);
     }
-    entries.truncate(kept + 1);
+    entries.truncate(unique + 1);
     Ok(())
 }
 
 /// Whether each key is less than the next.
-fn keys_rise<K: Ord>(entries: &[(K, Marks)]) -> bool
+fn keys_rise<K: Ord>(entries: &[(K, LocationTrie)]) -> bool
     ensures { result ≡ true → IsStrictlySortedBy K.cmp (keys_of entries.now) }
 {
     for i in 1..entries.len() {
@@ -107,23 +116,26 @@ fn keys_rise<K: Ord>(entries: &[(K, Marks)]) -> bool
 }
 
 /// Adds the locations of other marks to a set.
-fn join(marks: &mut Marks, others: Marks) -> Result<(), AllocError>
+fn join(marks: &mut LocationTrie, others: LocationTrie) -> Result<(), AllocError>
     ensures joined { OnOk result (IsJoined (marked marks.old) (marked others) (marked marks.new)) }
     ensures fewer { OnOk result (marks_count marks.new + 1 ≤ marks_count marks.old + marks_count others) }
 {
-    let Marks {
-        here,
+    let LocationTrie {
+        is_marked,
         mut names,
         mut indexes,
     } = others;
-    marks.here |= here;
+    marks.is_marked |= is_marked;
     append(&mut marks.names, &mut names)?;
     append(&mut marks.indexes, &mut indexes)?;
     Ok(())
 }
 
 /// Moves other entries to the end. Where they are no fewer than those before them it makes room for them, and for no more.
-fn append<K>(below: &mut Vec<(K, Marks)>, others: &mut Vec<(K, Marks)>) -> Result<(), AllocError>
+fn append<K>(
+    below: &mut Vec<(K, LocationTrie)>,
+    others: &mut Vec<(K, LocationTrie)>,
+) -> Result<(), AllocError>
     ensures { OnOk result (below.new.items ≡ below.old.items ++ others.old.items) }
 {
     if below.len() <= others.len() {

@@ -2,17 +2,17 @@
 //! with what asks them for the length of a call (`cells`, `finders`). `groupless` builds one without its groups, `weight` estimates
 //! what one takes, `unbuilt` has why one cannot be built.
 ghost use Rattle.std.specs.Prelude.{◌≡◌, ◌↔◌, ◌++◌, ◌==◌, IsTrue, false, is_some, chars, IfOk, IfErr, OnOk, string_bytes, encode_utf8_all};
-ghost use Rattle.jsonpath_base.specs.Pattern.{translated, reading, wrapped, is_entire, pattern_sought, found, IsPatternRefusal, IsUnbuilt};
+ghost use Rattle.jsonpath_base.specs.Pattern.{translated, reading, wrapped, is_entire, pattern_sought, found, IsPatternRefusal, IsPatternBuildError};
 ghost use Rattle.jsonpath_base.specs.inner.PatternParts.{written, inside_after, escaped_after, FindsSame, MatchesSame};
 
-pub mod cells;
-pub mod finders;
+pub mod build_error;
+pub mod cache;
 pub mod groupless;
-pub mod unbuilt;
+pub mod slots;
 pub mod weight;
 
+use crate::pattern::build_error::Built;
 use crate::pattern::groupless::{Matcher, Regex};
-use crate::pattern::unbuilt::Built;
 use crate::pattern::weight::byte_cost;
 use jsonpath_parser::errors::Parsed;
 use regex_syntax::{Config, ErrorKind, parse};
@@ -20,22 +20,22 @@ use std::alloc::{AllocError, Global};
 
 /// What of a text a pattern has to match.
 #[derive(Clone, Copy)]
-pub enum Extent {
+pub enum MatchKind {
     /// The entire text, as `match` asks.
-    Entire,
+    Full,
     /// Some substring, as `search` asks.
-    Substring,
+    Partial,
 }
 
-impl Extent {
+impl MatchKind {
     /// Whether it is the entire text.
     #[inline(always)]
     pub fn is_entire(self) -> bool
         ensures { result ≡ is_entire self }
     {
         match self {
-            Extent::Entire => true,
-            Extent::Substring => false,
+            MatchKind::Full => true,
+            MatchKind::Partial => false,
         }
     }
 }
@@ -44,7 +44,7 @@ impl Extent {
 #[derive(Drop)]
 pub struct Pattern {
     source: String,
-    extent: Extent,
+    extent: MatchKind,
     byte_cost: usize,
     // None where there is nothing to look for
     regex: Option<Regex>,
@@ -60,22 +60,22 @@ impl Pattern {
     /// # Errors
     ///
     /// `InvalidJsonPath` where `regex` can read it and refuses it for its size; `OutOfMemory` where memory ran out.
-    pub fn new(alloc: Global, pattern: &str, extent: Extent) -> Parsed<Pattern>
+    pub fn new(alloc: Global, pattern: &str, extent: MatchKind) -> Parsed<Pattern>
         ensures source { IfOk result (λ p. source_of p ≡ pattern.now) }
         ensures extent { IfOk result (λ p. is_for_match p ≡ is_entire extent) }
         ensures refused { IfErr result (IsPatternRefusal (pattern_sought (is_entire extent) pattern.now)) }
     {
         match Pattern::build(alloc, pattern, extent) {
             Ok(read) => Ok(read),
-            Err(unbuilt) => Err(unbuilt.told(alloc)),
+            Err(unbuilt) => Err(unbuilt.into_error(alloc)),
         }
     }
 
     /// Reads a pattern as [`Pattern::new`] does, and makes no text where it is refused.
-    pub(crate) fn build(alloc: Global, pattern: &str, extent: Extent) -> Built<Pattern>
+    pub(crate) fn build(alloc: Global, pattern: &str, extent: MatchKind) -> Built<Pattern>
         ensures source { IfOk result (λ p. source_of p ≡ pattern.now) }
         ensures extent { IfOk result (λ p. is_for_match p ≡ is_entire extent) }
-        ensures refused { IfErr result (IsUnbuilt (pattern_sought (is_entire extent) pattern.now)) }
+        ensures refused { IfErr result (IsPatternBuildError (pattern_sought (is_entire extent) pattern.now)) }
     {
         let byte_cost = byte_cost(alloc, pattern)?;
         let regex = built_for(alloc, pattern, extent)?;
@@ -96,14 +96,14 @@ impl Pattern {
     }
 
     /// What of a text it has to match.
-    pub fn extent(&self) -> Extent
+    pub fn extent(&self) -> MatchKind
         ensures { is_entire result ≡ is_for_match self.now }
     {
         self.extent
     }
 
     /// Whether it was read from this text, and for this extent.
-    pub fn is_of(&self, pattern: &str, extent: Extent) -> bool
+    pub fn is_of(&self, pattern: &str, extent: MatchKind) -> bool
         ensures { IsTrue result ↔ (source_of self.now ≡ pattern.now) × (is_for_match self.now ≡ is_entire extent) }
     {
         extent.is_entire() == self.extent.is_entire() && self.source.as_str() == pattern
@@ -145,7 +145,7 @@ impl<'p> Finder<'p> {
     ghost use Rattle.jsonpath_base.specs.PatternViews.{source_of, is_for_match, pattern_of};
 
     /// Whether its pattern was read from this text, and for this extent.
-    pub fn is_of(&self, pattern: &str, extent: Extent) -> bool
+    pub fn is_of(&self, pattern: &str, extent: MatchKind) -> bool
         ensures { IsTrue result ↔ (source_of (pattern_of self.now) ≡ pattern.now) × (is_for_match (pattern_of self.now) ≡ is_entire extent) }
     {
         self.pattern.is_of(pattern, extent)
@@ -183,20 +183,20 @@ pub fn found(alloc: Global, text: &str, pattern: &str, whole: bool) -> Parsed<bo
 }
 
 /// The entire text where `whole`, else some substring.
-fn extent_of(whole: bool) -> Extent
+fn extent_of(whole: bool) -> MatchKind
     ensures { is_entire result ≡ whole }
 {
     if whole {
-        Extent::Entire
+        MatchKind::Full
     } else {
-        Extent::Substring
+        MatchKind::Partial
     }
 }
 
 /// What looks for a pattern, or None where there is nothing to look for.
-fn built_for(alloc: Global, pattern: &str, extent: Extent) -> Built<Option<Regex>>
+fn built_for(alloc: Global, pattern: &str, extent: MatchKind) -> Built<Option<Regex>>
     ensures same { IfOk result (FindsSame (pattern_sought (is_entire extent) pattern.now)) }
-    ensures refused { IfErr result (IsUnbuilt (pattern_sought (is_entire extent) pattern.now)) }
+    ensures refused { IfErr result (IsPatternBuildError (pattern_sought (is_entire extent) pattern.now)) }
 {
     let text = translate(alloc, pattern)?;
     if !extent.is_entire() {

@@ -51,7 +51,7 @@ pub fn put_at(value: &mut Value, place: &[Step], new: Value) -> bool
 /// changes. It takes no memory, and time as `at`. Of a value with a number that is not whole less is proved, as of `at`.
 pub fn take_at(value: &mut Value, place: &[Step]) -> Option<Value>
     ensures taken { option_map value_tree result ≡ places.at (location_view place.now) (value_tree value.old) }
-    ensures left { value_tree value.new ≡ put (location_view place.now) null (value_tree value.old) }
+    ensures remaining { value_tree value.new ≡ put (location_view place.now) null (value_tree value.old) }
     ensures unchanged { IfNone result (view value.new ≡ view value.old) }
     ensures whole { IsTrue (value_is_whole value.old) → IsTrue (value_is_whole value.new) }
     ensures taken_whole { IsTrue (value_is_whole value.old) → IfSome result (λ v. IsTrue (value_is_whole v)) }

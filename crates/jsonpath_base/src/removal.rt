@@ -9,10 +9,10 @@ ghost use Rattle.jsonpath_base.specs.Steps.{location_view, lent_location};
 ghost use Rattle.jsonpath_base.specs.Values.{value_tree, value_is_whole};
 ghost use Rattle.jsonpath_base.specs.Overwritten.{overwritten};
 ghost use Rattle.jsonpath_base.specs.Without.{without, is_among, distinct_count, counted_with, HasAlso};
-ghost use Rattle.jsonpath_base.specs.inner.Marks.{to_member, marked, marked_below, in_order, level_in_order, IsSameSet};
+ghost use Rattle.jsonpath_base.specs.inner.LocationTries.{to_member, marked, marked_below, in_order, level_in_order, IsSameSet};
 ghost use Rattle.jsonpath_base.specs.inner.Thinning.{data_thinned, items_thinned, members_thinned, sieved, IsThinnedAt, IsThinnedBy};
 
-use crate::marks::{Marks, mark};
+use crate::location_trie::{LocationTrie, mark};
 use crate::masking::{copies_for, fill};
 use crate::ordering::put_in_order;
 use crate::size::{marks_size, steps_size};
@@ -30,24 +30,24 @@ const LEAST: usize = 1024;
 /// are put in order, each step once, and the sort takes room for what was added. So memory grows with the distinct steps and with
 /// their names, to about twice these at most.
 #[derive(Drop)]
-pub struct Removal {
-    marks: Marks,
+pub struct LocationSet {
+    marks: LocationTrie,
     /// The size of what was added since a location came out of order; 0 where the marks are in order.
     added: usize,
     /// How much that is before they are put in order.
     most: usize,
 }
 
-impl Removal {
-    ghost use Rattle.jsonpath_base.specs.RemovalViews.{removal_set, removal_count, ordered_set, ordered_count, LastBegins};
+impl LocationSet {
+    ghost use Rattle.jsonpath_base.specs.LocationSetViews.{location_set, location_count, sorted_set, sorted_count, LastBegins};
 
     /// Of no location.
     pub fn new(alloc: Global) -> Self
-        ensures none { (l : Location) → removal_set result l ≡ false }
-        ensures count { removal_count result ≡ 0 }
+        ensures none { (l : Location) → location_set result l ≡ false }
+        ensures count { location_count result ≡ 0 }
     {
-        Removal {
-            marks: Marks::new(alloc),
+        LocationSet {
+            marks: LocationTrie::new(alloc),
             added: 0,
             most: LEAST,
         }
@@ -56,8 +56,8 @@ impl Removal {
     /// Adds the location of these steps. It refuses by `OutOfMemory` alone, and then the removal may have lost locations. Time
     /// linear in the steps and in their names; for many locations n log n.
     pub fn add(&mut self, alloc: Global, steps: &[StepRef<'_>]) -> Parsed<()>
-        ensures added { OnOk result (HasAlso (removal_set self.old) (lent_location steps.now) (removal_set self.new)) }
-        ensures count { OnOk result (removal_count self.new ≡ counted_with (lent_location steps.now) (removal_set self.old) (removal_count self.old)) }
+        ensures added { OnOk result (HasAlso (location_set self.old) (lent_location steps.now) (location_set self.new)) }
+        ensures count { OnOk result (location_count self.new ≡ counted_with (lent_location steps.now) (location_set self.old) (location_count self.old)) }
         ensures last { OnOk result (LastBegins self.new (lent_location steps.now)) }
         ensures memory { IfErr result (λ e. e ≡ JsonPathError.OutOfMemory) }
     {
@@ -66,15 +66,20 @@ impl Removal {
 
     /// The same of steps of which so many are the first ones of the location that was added last: as long as the marks are
     /// not put in order, these are neither compared nor held again. Where they are other ones, nothing is known of the removal from there on.
-    pub fn add_behind(&mut self, alloc: Global, steps: &[StepRef<'_>], settled: usize) -> Parsed<()>
-        ensures added { OnOk result (LastBegins self.old (take settled (lent_location steps.now))
-            → HasAlso (removal_set self.old) (lent_location steps.now) (removal_set self.new)) }
-        ensures count { OnOk result (LastBegins self.old (take settled (lent_location steps.now))
-            → removal_count self.new ≡ counted_with (lent_location steps.now) (removal_set self.old) (removal_count self.old)) }
-        ensures last { OnOk result (LastBegins self.old (take settled (lent_location steps.now)) → LastBegins self.new (lent_location steps.now)) }
+    pub fn add_behind(
+        &mut self,
+        alloc: Global,
+        steps: &[StepRef<'_>],
+        shared_len: usize,
+    ) -> Parsed<()>
+        ensures added { OnOk result (LastBegins self.old (take shared_len (lent_location steps.now))
+            → HasAlso (location_set self.old) (lent_location steps.now) (location_set self.new)) }
+        ensures count { OnOk result (LastBegins self.old (take shared_len (lent_location steps.now))
+            → location_count self.new ≡ counted_with (lent_location steps.now) (location_set self.old) (location_count self.old)) }
+        ensures last { OnOk result (LastBegins self.old (take shared_len (lent_location steps.now)) → LastBegins self.new (lent_location steps.now)) }
         ensures memory { IfErr result (λ e. e ≡ JsonPathError.OutOfMemory) }
     {
-        let known = self.joined(alloc, settled)?;
+        let known = self.joined(alloc, shared_len)?;
         let rises = mark(alloc, &mut self.marks, steps, known)?;
         let size = if self.added > 0 || !rises {
             steps_size(steps, known)
@@ -87,12 +92,12 @@ impl Removal {
 
     /// Puts the marks in order, each step once, where a quarter of what is held was added out of order. Returns how many of the
     /// settled steps the marks still end with.
-    fn joined(&mut self, alloc: Global, settled: usize) -> Result<usize, AllocError>
-        ensures same { OnOk result (IsSameSet (removal_set self.old) (removal_set self.new)) }
-        ensures known { (l : Location) → IfOk result (λ n. LastBegins self.old (take settled l) → LastBegins self.new (take n l)) }
+    fn joined(&mut self, alloc: Global, shared_len: usize) -> Result<usize, AllocError>
+        ensures same { OnOk result (IsSameSet (location_set self.old) (location_set self.new)) }
+        ensures known { (l : Location) → IfOk result (λ n. LastBegins self.old (take shared_len l) → LastBegins self.new (take n l)) }
     {
         if self.added < self.most {
-            return Ok(settled);
+            return Ok(shared_len);
         }
         let _ = put_in_order(alloc, &mut self.marks)?;
         self.added = 0;
@@ -102,35 +107,35 @@ impl Removal {
 
     /// The same locations, in order and counted. It refuses by `OutOfMemory` alone. Time linear in the steps that are held
     /// where they were added in order, and else n log n.
-    pub fn ordered(self, alloc: Global) -> Parsed<OrderedRemoval>
-        ensures set { IfOk result (λ r. ordered_set r ≡ removal_set self) }
-        ensures count { IfOk result (λ r. ordered_count r ≡ removal_count self) }
+    pub fn ordered(self, alloc: Global) -> Parsed<SortedLocations>
+        ensures set { IfOk result (λ r. sorted_set r ≡ location_set self) }
+        ensures count { IfOk result (λ r. sorted_count r ≡ location_count self) }
         ensures memory { IfErr result (λ e. e ≡ JsonPathError.OutOfMemory) }
     {
-        let Removal { mut marks, .. } = self;
+        let LocationSet { mut marks, .. } = self;
         let count = put_in_order(alloc, &mut marks)?;
-        Ok(OrderedRemoval { marks, count })
+        Ok(SortedLocations { marks, count })
     }
 }
 
 /// Locations to be removed from a value, or replaced in it, in order, and how many distinct ones they are.
 #[derive(Drop)]
-pub struct OrderedRemoval {
-    marks: Marks,
+pub struct SortedLocations {
+    marks: LocationTrie,
     count: usize,
     ghost ordered: { IsTrue (in_order marks) },
 }
 
-impl OrderedRemoval {
-    ghost use Rattle.jsonpath_base.specs.RemovalViews.{ordered_set, ordered_count};
+impl SortedLocations {
+    ghost use Rattle.jsonpath_base.specs.LocationSetViews.{sorted_set, sorted_count};
 
     /// These locations. It refuses by `OutOfMemory` alone.
     fn at_places(alloc: Global, places: &[Vec<Step>]) -> Parsed<Self>
-        ensures set { IfOk result (λ r. ordered_set r ≡ is_among (map (λ p. location_view p.items) places.now)) }
-        ensures count { IfOk result (λ r. ordered_count r ≡ distinct_count (map (λ p. location_view p.items) places.now)) }
+        ensures set { IfOk result (λ r. sorted_set r ≡ is_among (map (λ p. location_view p.items) places.now)) }
+        ensures count { IfOk result (λ r. sorted_count r ≡ distinct_count (map (λ p. location_view p.items) places.now)) }
         ensures memory { IfErr result (λ e. e ≡ JsonPathError.OutOfMemory) }
     {
-        let mut removal = Removal::new(alloc);
+        let mut removal = LocationSet::new(alloc);
         for place in places {
             let steps = lent_steps(alloc, place)?;
             removal.add(alloc, &steps)?;
@@ -140,7 +145,7 @@ impl OrderedRemoval {
 
     /// How many distinct locations there are.
     pub fn count(&self) -> usize
-        ensures { result ≡ ordered_count self.now }
+        ensures { result ≡ sorted_count self.now }
     {
         self.count
     }
@@ -148,10 +153,10 @@ impl OrderedRemoval {
     /// Removes the locations from the value, all at once and each by its original place. One where nothing is changes nothing;
     /// where the root is one of them, null is left. It takes no memory.
     pub fn remove_from(&self, value: &mut Value)
-        ensures removed { value_tree value.new ≡ without (ordered_set self.now) (value_tree value.old) }
+        ensures removed { value_tree value.new ≡ without (sorted_set self.now) (value_tree value.old) }
         ensures whole { IsTrue (value_is_whole value.old) → IsTrue (value_is_whole value.new) }
     {
-        if self.marks.here {
+        if self.marks.is_marked {
             drop(mem::replace(value, Value::Null));
             return;
         }
@@ -162,9 +167,9 @@ impl OrderedRemoval {
     /// replaced, and one where nothing is changes nothing. It refuses by `OutOfMemory` alone, and then the value is as it was:
     /// all copies are made first, one for each location that lies inside no other.
     pub fn replace_in(&self, alloc: Global, value: &mut Value, new: &Value) -> Parsed<()>
-        ensures replaced { OnOk result (value_tree value.new ≡ overwritten (ordered_set self.now) (value_tree new.now) (value_tree value.old)) }
+        ensures replaced { OnOk result (value_tree value.new ≡ overwritten (sorted_set self.now) (value_tree new.now) (value_tree value.old)) }
         ensures whole { IsTrue (value_is_whole value.old) → IsTrue (value_is_whole new.now) → IsTrue (value_is_whole value.new) }
-        ensures kept { OnErr result (value.new ≡ value.old) }
+        ensures unchanged_on_error { OnErr result (value.new ≡ value.old) }
         ensures memory { IfErr result (λ e. e ≡ JsonPathError.OutOfMemory) }
     {
         let mut copies = copies_for(alloc, &self.marks, new)?;
@@ -187,10 +192,10 @@ pub fn remove_all(alloc: Global, value: &mut Value, places: &[Vec<Step>]) -> Par
     ensures removed { OnOk result (value_tree value.new ≡ without (is_among (map (λ p. location_view p.items) places.now)) (value_tree value.old)) }
     ensures count { IfOk result (λ n. n ≡ distinct_count (map (λ p. location_view p.items) places.now)) }
     ensures whole { IsTrue (value_is_whole value.old) → IsTrue (value_is_whole value.new) }
-    ensures kept { OnErr result (value.new ≡ value.old) }
+    ensures unchanged_on_error { OnErr result (value.new ≡ value.old) }
     ensures memory { IfErr result (λ e. e ≡ JsonPathError.OutOfMemory) }
 {
-    let removal = OrderedRemoval::at_places(alloc, places)?;
+    let removal = SortedLocations::at_places(alloc, places)?;
     removal.remove_from(value);
     Ok(removal.count)
 }
@@ -214,10 +219,10 @@ pub fn replace_all(
     ensures replaced { OnOk result (value_tree value.new ≡ overwritten (is_among (map (λ p. location_view p.items) places.now)) (value_tree new.now) (value_tree value.old)) }
     ensures count { IfOk result (λ n. n ≡ distinct_count (map (λ p. location_view p.items) places.now)) }
     ensures whole { IsTrue (value_is_whole value.old) → IsTrue (value_is_whole new.now) → IsTrue (value_is_whole value.new) }
-    ensures kept { OnErr result (value.new ≡ value.old) }
+    ensures unchanged_on_error { OnErr result (value.new ≡ value.old) }
     ensures memory { IfErr result (λ e. e ≡ JsonPathError.OutOfMemory) }
 {
-    let removal = OrderedRemoval::at_places(alloc, places)?;
+    let removal = SortedLocations::at_places(alloc, places)?;
     removal.replace_in(alloc, value, new)?;
     Ok(removal.count)
 }
@@ -229,14 +234,14 @@ fn lent_steps<'s>(alloc: Global, steps: &'s [Step]) -> Parsed<Vec<StepRef<'s>>>
 {
     let mut lent = Vec::with_capacity(alloc, steps.len())?;
     for step in steps {
-        lent.push(step.lent())?;
+        lent.push(step.as_ref())?;
     }
     Ok(lent)
 }
 
 /// Removes what is marked below a value.
 #[cycle(thin)]
-fn thin(value: &mut Value, marks: &Marks)
+fn thin(value: &mut Value, marks: &LocationTrie)
     requires { IsTrue (in_order marks.now) }
     ensures { view value.new ≡ data_thinned (marked marks.now) (view value.old) }
 {
@@ -249,7 +254,7 @@ fn thin(value: &mut Value, marks: &Marks)
 
 /// Removes what is marked in a list: first below its elements, while each stands in its place, then the elements.
 #[cycle(thin)]
-fn thin_items(items: &mut Vec<Value>, marks: &[(usize, Marks)])
+fn thin_items(items: &mut Vec<Value>, marks: &[(usize, LocationTrie)])
     requires { IsTrue (level_in_order nat_cmp marks.now) }
     ensures { items_view items.new.items ≡ items_thinned (marked_below location.index marks.now) 0 (items_view items.old.items) }
 {
@@ -261,11 +266,11 @@ fn thin_items(items: &mut Vec<Value>, marks: &[(usize, Marks)])
 
 /// Removes what is marked below an element, where the element itself is not marked.
 #[cycle(thin)]
-fn thin_item(items: &mut Vec<Value>, index: usize, marks: &Marks)
+fn thin_item(items: &mut Vec<Value>, index: usize, marks: &LocationTrie)
     requires { IsTrue (in_order marks.now) }
     ensures { IsThinnedAt index marks.now (items_view items.old.items) (items_view items.new.items) }
 {
-    if marks.here {
+    if marks.is_marked {
         return;
     }
     if let Some(item) = items.get_mut(index) {
@@ -275,7 +280,7 @@ fn thin_item(items: &mut Vec<Value>, index: usize, marks: &Marks)
 
 /// Removes what is marked in an object.
 #[cycle(thin)]
-fn thin_members(members: &mut Map<String, Value>, marks: &[(String, Marks)])
+fn thin_members(members: &mut Map<String, Value>, marks: &[(String, LocationTrie)])
     requires { IsTrue (level_in_order string_cmp marks.now) }
     ensures { members_view members.new.entries ≡ members_thinned (marked_below to_member marks.now) (members_view members.old.entries) }
 {
@@ -286,11 +291,11 @@ fn thin_members(members: &mut Map<String, Value>, marks: &[(String, Marks)])
 
 /// Removes a member that is marked, and else what is marked below it.
 #[cycle(thin)]
-fn thin_member(members: &mut Map<String, Value>, name: &String, marks: &Marks)
+fn thin_member(members: &mut Map<String, Value>, name: &String, marks: &LocationTrie)
     requires { IsTrue (in_order marks.now) }
     ensures { IsThinnedBy name.now marks.now (members_view members.old.entries) (members_view members.new.entries) }
 {
-    if marks.here {
+    if marks.is_marked {
         drop(members.remove(name.as_str()));
         return;
     }
@@ -301,7 +306,7 @@ fn thin_member(members: &mut Map<String, Value>, name: &String, marks: &Marks)
 
 /// Removes the elements that the marks hold. No element is looked up: the marks are gone through in their order, and each
 /// run of elements between two of them is moved by itself.
-fn drop_marked(items: &mut Vec<Value>, marks: &[(usize, Marks)])
+fn drop_marked(items: &mut Vec<Value>, marks: &[(usize, LocationTrie)])
     requires { IsTrue (level_in_order nat_cmp marks.now) }
     ensures { items_view items.new.items ≡ sieved marks.now 0 (items_view items.old.items) }
 {
@@ -309,7 +314,7 @@ fn drop_marked(items: &mut Vec<Value>, marks: &[(usize, Marks)])
     let mut gone = 0;
     let mut next = 0;
     for (index, below) in marks {
-        if below.here && *index < length {
+        if below.is_marked && *index < length {
             move_down(items, gone, next, *index);
             gone += 1;
             next = *index + 1;

@@ -146,7 +146,7 @@ regroup a w b c more = simp append_assoc
 pub number_start : (v : Option ℤ) (a more : List ℕ) → SpellsNumber v a → is_int_first (first (a ++ more)) ≡ true
 number_start v text more h =
     let later = h.fraction_text ++ (h.exponent_text ++ more) in
-    rw (h.spelled, regroup h.sign_text h.whole h.fraction_text h.exponent_text more) (behind_sign h.minus h.sign_text (h.whole ++ later) h.sign_spelled (whole_start h.whole later h.is_whole_part))
+    rw (h.spelled, regroup h.sign_text h.integer h.fraction_text h.exponent_text more) (behind_sign h.minus h.sign_text (h.integer ++ later) h.sign_spelled (whole_start h.integer later h.is_whole_part))
   where
     behind_sign : (minus : Bool) (a rest : List ℕ) → SpellsSign minus a → is_ascii_digit (first rest) ≡ true → is_int_first (first (a ++ rest)) ≡ true
     behind_sign false a rest h digit = rw (h, digit) refl
@@ -156,7 +156,7 @@ number_start v text more h =
 pub complete_number : (v : Option ℤ) (a more : List ℕ) → SpellsNumber v a → EndsNumber more → number_at (a ++ more) ≡ Some (v, more)
 complete_number v text more h stop =
     let a = h.sign_text in
-    let w = h.whole in
+    let w = h.integer in
     let b = h.fraction_text in
     let c = h.exponent_text in
     let start = exponent_start h.exponent c more h.exponent_spelled stop in

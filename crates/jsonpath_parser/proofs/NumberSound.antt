@@ -168,7 +168,7 @@ sound_number v text rest e =
       a ++ (w.0 ++ (b ++ c)),
       record {
         minus = minus;
-        whole = w.0;
+        integer = w.0;
         fraction = f.0;
         exponent = x.0;
         sign_text = a;

@@ -49,7 +49,7 @@ number_parts minus n sign v is_sign is fits =
     let back : digits_value 10 (index_digits n ++ []) ≡ n = ap (digits_value 10) (append-nil (index_digits n)) ∙ digits_back n in
     record {
       minus = minus;
-      whole = index_digits n;
+      integer = index_digits n;
       fraction = [];
       exponent = raised 0;
       sign_text = sign;

@@ -21,7 +21,7 @@ pub data Error : Type 0 where
 abbrev pub error_view : JsonPathError → Error
 error_view (code.PestError place) = pest_error place
 error_view (code.UnexpectedRuleLogicError rule text) = unexpected_rule (string_bytes rule) (string_bytes text)
-error_view (code.UnexpectedNoneLogicError part whole) = unexpected_none (string_bytes part) (string_bytes whole)
+error_view (code.UnexpectedNoneLogicError part text) = unexpected_none (string_bytes part) (string_bytes text)
 error_view code.UnexpectedPestOutput = unexpected_output
 error_view code.NoRulePath = no_rule_path
 error_view code.NoJsonPathDescent = no_descent

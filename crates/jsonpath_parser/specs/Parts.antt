@@ -88,8 +88,8 @@ IsPartRefusal spells typed c _ = ⊥
 
 -- What a grammar function answers. The tree that the whole rest spells is the one, unless memory ran out; so a refusal for another cause comes only where the rest spells none. After a refusal the cursor is as it was.
 pub record ReadsPart {T V : Type 0} (spells : Spelling V) (typed : V → Bool) (view : T → V) (old new : Cursor) (result : Result T JsonPathError) : Type 0 where
-  pub read : IfOk result (λ t. IsPart spells typed (view t) old new)
-  pub whole : (v : V) → spells IsValued v (rest_of old) → typed v ≡ true → MatchResult result (λ t. (view t ≡ v) × (rest_of new ≡ [])) (λ e. e ≡ OutOfMemory)
+  pub outcome : IfOk result (λ t. IsPart spells typed (view t) old new)
+  pub complete : (v : V) → spells IsValued v (rest_of old) → typed v ≡ true → MatchResult result (λ t. (view t ≡ v) × (rest_of new ≡ [])) (λ e. e ≡ OutOfMemory)
   pub refused : IfErr result (IsPartRefusal spells typed old)
-  pub kept : OnErr result (new ≡ old)
+  pub unchanged_on_error : OnErr result (new ≡ old)
   pub same : text_of new ≡ text_of old

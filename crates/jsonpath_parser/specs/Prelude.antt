@@ -1,8 +1,8 @@
 -- What contracts and proofs name, for one import a file. Nothing is declared here.
 pub use Rattle.jsonpath_parser.specs.declared.errors.JsonPathError.{JsonPathError}
 pub use Rattle.jsonpath_parser.specs.declared.errors.JsonPathError.TheVariants.{OutOfMemory}
-pub use Rattle.jsonpath_parser.specs.declared.grammar.literals.Numbers.{Numbers}
-pub use Rattle.jsonpath_parser.specs.declared.grammar.literals.Numbers.TheVariants.{Any, Valued}
+pub use Rattle.jsonpath_parser.specs.declared.grammar.literals.NumberMode.{NumberMode}
+pub use Rattle.jsonpath_parser.specs.declared.grammar.literals.NumberMode.TheVariants.{Any, Valued}
 pub use Rattle.jsonpath_parser.specs.declared.tree.model.Comparable.{Comparable}
 pub use Rattle.jsonpath_parser.specs.declared.tree.model.Comparison.{Comparison}
 pub use Rattle.jsonpath_parser.specs.declared.tree.model.Filter.{the_lemmas}
@@ -12,8 +12,8 @@ pub use Rattle.jsonpath_parser.specs.declared.tree.model.JpQuery.{JpQuery}
 pub use Rattle.jsonpath_parser.specs.declared.tree.model.SingularQuery.{SingularQuery}
 pub use Rattle.jsonpath_parser.specs.declared.tree.model.SingularQuerySegment.{SingularQuerySegment}
 pub use Rattle.jsonpath_parser.specs.declared.tree.model.TestFunction.{TestFunction}
-pub use Rattle.jsonpath_parser.specs.declared.words.stop.Stop.{Stop}
-pub use Rattle.jsonpath_parser.specs.declared.words.stop.Stop.TheVariants.{Memory}
+pub use Rattle.jsonpath_parser.specs.declared.words.parse_error.ParseError.{ParseError}
+pub use Rattle.jsonpath_parser.specs.declared.words.parse_error.ParseError.TheVariants.{Memory}
 pub use Rattle.jsonpath_parser.specs.Derives.{Derives, IsRefusal}
 pub use Rattle.jsonpath_parser.specs.Equality.{IsEqualityOf}
 pub use Rattle.jsonpath_parser.specs.Errors.{error_view}
@@ -22,7 +22,7 @@ pub use Rattle.jsonpath_parser.specs.inner.ReadingGrammar.{ands_at, arguments_at
 unfoldable pub use Rattle.jsonpath_parser.specs.inner.ReadingGrammar.{all_arguments_at, all_segments_at, argument_at, basic_at, called_at, compared_at, conjunction_at, descendant_at, disjunction_at, end_at, group_at, logical_at, negated_at, number_reading, numbered_at, operand_at, operator_at, plain_at, query_at, segment_at, selection_at, selector_at, shorthand_at, slice_at, step_at, whole_query, word_at, word_operand_at}
 pub use Rattle.jsonpath_parser.specs.inner.ReadingLists.{found_then}
 unfoldable pub use Rattle.jsonpath_parser.specs.inner.ReadingLists.{many_at, separated_at}
-pub use Rattle.jsonpath_parser.specs.inner.ReadingParts.{IsAnswer, IsCursorRefusal, slice_in, StaysInText, Takes}
+pub use Rattle.jsonpath_parser.specs.inner.ReadingParts.{IsAnswer, IsCursorRefusal, slice_in, StaysInText, Accepts}
 unfoldable pub use Rattle.jsonpath_parser.specs.inner.ReadingParts.{taken_at}
 pub use Rattle.jsonpath_parser.specs.inner.ReadingQuery.{IsReadRefusal}
 pub use Rattle.jsonpath_parser.specs.Location.{Begins, Location, Step}

@@ -152,8 +152,8 @@ impl JsonPathError {
             JsonPathError::UnexpectedRuleLogicError(rule, text) => {
                 JsonPathError::unexpected_rule(alloc, rule, text)
             }
-            JsonPathError::UnexpectedNoneLogicError(part, whole) => {
-                unexpected_none(alloc, part, whole)
+            JsonPathError::UnexpectedNoneLogicError(part, text) => {
+                unexpected_none(alloc, part, text)
             }
             JsonPathError::UnexpectedPestOutput => Ok(JsonPathError::UnexpectedPestOutput),
             JsonPathError::NoRulePath => Ok(JsonPathError::NoRulePath),
@@ -177,13 +177,13 @@ impl JsonPathError {
     }
 }
 
-fn unexpected_none(alloc: Global, part: &str, whole: &str) -> Parsed<JsonPathError>
-    ensures made { IfOk result (λ e. error_view e ≡ error.unexpected_none part.now whole.now) }
+fn unexpected_none(alloc: Global, part: &str, text: &str) -> Parsed<JsonPathError>
+    ensures made { IfOk result (λ e. error_view e ≡ error.unexpected_none part.now text.now) }
     ensures memory { IfErr result (λ e. e ≡ OutOfMemory) }
 {
     let part = String::from_str(alloc, part)?;
-    let whole = String::from_str(alloc, whole)?;
-    Ok(JsonPathError::UnexpectedNoneLogicError(part, whole))
+    let text = String::from_str(alloc, text)?;
+    Ok(JsonPathError::UnexpectedNoneLogicError(part, text))
 }
 
 /// What a call of the parser returns.

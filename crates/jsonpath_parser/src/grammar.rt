@@ -14,20 +14,20 @@ mod selectors;
 mod slices;
 mod words;
 
-pub use self::literals::Numbers;
+pub use self::literals::NumberMode;
 use self::segments::segments;
 use crate::tree::model::JpQuery;
-use crate::words::stop::Stop;
+use crate::words::parse_error::ParseError;
 use crate::words::text::{first, skip};
 use std::alloc::Global;
 
 /// `$` and segments (2.1.1, 2.2.1).
 #[tactic(auto, unfolding(crate::specs::inner::ReadingGrammar::query_at))]
-fn query(alloc: Global, numbers: Numbers, s: &str) -> Result<(JpQuery, &str), Stop>
+fn query(alloc: Global, numbers: NumberMode, s: &str) -> Result<(JpQuery, &str), ParseError>
     ensures value { (n : ℕ) → length s.now ≤ n → Reads query_view result (spec.query_at (number_reading numbers) n s.now) }
 {
     if first(s) != b'$' {
-        return Err(Stop::Syntax(s.len()));
+        return Err(ParseError::Syntax(s.len()));
     }
     let (segments, rest) = segments(alloc, numbers, skip(s, 1))?;
     Ok((JpQuery::new(segments), rest))
@@ -35,12 +35,12 @@ fn query(alloc: Global, numbers: Numbers, s: &str) -> Result<(JpQuery, &str), St
 
 /// The query that the whole text is.
 #[tactic(auto, unfolding(crate::specs::inner::ReadingGrammar::whole_query))]
-pub fn whole_query(alloc: Global, numbers: Numbers, s: &str) -> Result<JpQuery, Stop>
+pub fn whole_query(alloc: Global, numbers: NumberMode, s: &str) -> Result<JpQuery, ParseError>
     ensures { Gives query_view result (spec.whole_query (number_reading numbers) s.now) }
 {
     let (query, rest) = query(alloc, numbers, s)?;
     if !rest.is_empty() {
-        return Err(Stop::Syntax(rest.len()));
+        return Err(ParseError::Syntax(rest.len()));
     }
     Ok(query)
 }

@@ -30,7 +30,8 @@ pub use crate::query_text::to_query_text;
 pub use crate::slice::{SlicePlaces, picked, slice_places};
 pub use crate::text::{text_length, text_less};
 pub use crate::tree::{
-    calls_only, equal_parts_are_one_tree, is_local, is_singular, is_typed, let_go, model,
+    are_steps, drop_query, equal_parts_are_one_tree, first_unknown_function, is_local, is_singular,
+    is_typed, model,
 };
 pub use crate::words::depth::nests_deeper;
 pub use crate::words::quoting;

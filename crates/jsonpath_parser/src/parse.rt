@@ -7,12 +7,12 @@ ghost use Rattle.jsonpath_parser.specs.inner.ReadingQuery as reading;
 ghost use Rattle.jsonpath_parser.specs.inner.ReadingQuery.{IsTextRefusal};
 
 use crate::errors::{JsonPathError, Parsed};
-use crate::grammar::{Numbers, whole_query};
+use crate::grammar::{NumberMode, whole_query};
 use crate::tree::is_typed;
 use crate::tree::model::JpQuery;
 use crate::words::depth::nests_deeper;
 use crate::words::number::number;
-use crate::words::stop::Stop;
+use crate::words::parse_error::ParseError;
 use std::alloc::Global;
 
 /// How many brackets may stand open in a query text.
@@ -20,12 +20,12 @@ pub const MAX_NESTING_DEPTH: usize = 128;
 
 /// The query that the whole text is, where it is well-typed.
 #[tactic(auto, unfolding(crate::specs::inner::ReadingQuery::typed_query))]
-pub fn typed_query(alloc: Global, numbers: Numbers, text: &str) -> Result<JpQuery, Stop>
+pub fn typed_query(alloc: Global, numbers: NumberMode, text: &str) -> Result<JpQuery, ParseError>
     ensures { Gives query_view result (reading.typed_query numbers text.now) }
 {
     let query = whole_query(alloc, numbers, text)?;
     if !is_typed(&query) {
-        return Err(Stop::Syntax(0));
+        return Err(ParseError::Syntax(0));
     }
     Ok(query)
 }
@@ -42,32 +42,32 @@ fn valueless(s: &str) -> &str
 }
 
 /// The place where so many bytes are left, between two characters or at an end of the text.
-pub fn place_at(text: &str, left: usize) -> usize
+pub fn place_at(text: &str, remaining: usize) -> usize
     ensures { IsCharBoundary text.now result }
 {
     // What is left is an end of the text, so this is its start.
-    text.floor_char_boundary(text.len().saturating_sub(left))
+    text.floor_char_boundary(text.len().saturating_sub(remaining))
 }
 
 /// The number literal without a value that stands where so many bytes are left, or no text where none stands there.
-pub fn literal_at(text: &str, left: usize) -> &str
+pub fn literal_at(text: &str, remaining: usize) -> &str
     ensures { IsValuelessIn text.now result.now }
 {
-    let (_, start) = text.split_at(place_at(text, left));
+    let (_, start) = text.split_at(place_at(text, remaining));
     valueless(start)
 }
 
 /// The refusal of a text that is no query, whose reading stopped where so many bytes were left.
-fn refusal(alloc: Global, text: &str, left: usize) -> JsonPathError
+fn refusal(alloc: Global, text: &str, remaining: usize) -> JsonPathError
     ensures { IsTextRefusal text.now result }
 {
-    match typed_query(alloc, Numbers::Any, text) {
-        Ok(_) => match String::from_str(alloc, literal_at(text, left)) {
+    match typed_query(alloc, NumberMode::Any, text) {
+        Ok(_) => match String::from_str(alloc, literal_at(text, remaining)) {
             Ok(literal) => JsonPathError::InvalidNumber(literal),
             Err(_) => JsonPathError::OutOfMemory,
         },
-        Err(Stop::Memory) => JsonPathError::OutOfMemory,
-        Err(Stop::Syntax(left)) => JsonPathError::PestError(place_at(text, left)),
+        Err(ParseError::Memory) => JsonPathError::OutOfMemory,
+        Err(ParseError::Syntax(remaining)) => JsonPathError::PestError(place_at(text, remaining)),
     }
 }
 
@@ -81,10 +81,10 @@ fn read_within(alloc: Global, text: &str, depth: usize) -> Parsed<JpQuery>
     if nests_deeper(text, depth) {
         return Err(JsonPathError::MaxNestingDepthExceeded(depth));
     }
-    match typed_query(alloc, Numbers::Valued, text) {
+    match typed_query(alloc, NumberMode::Valued, text) {
         Ok(query) => Ok(query),
-        Err(Stop::Memory) => Err(JsonPathError::OutOfMemory),
-        Err(Stop::Syntax(left)) => Err(refusal(alloc, text, left)),
+        Err(ParseError::Memory) => Err(JsonPathError::OutOfMemory),
+        Err(ParseError::Syntax(remaining)) => Err(refusal(alloc, text, remaining)),
     }
 }
 
@@ -108,7 +108,7 @@ pub fn parse_json_path(alloc: Global, text: &str) -> Parsed<JpQuery>
     ensures derived { IfOk result (λ q. Derives MAX_NESTING_DEPTH text.now (query_view q)) }
 
     // Every tree that the text derives is the one answered, unless memory ran out.
-    ensures only { (t : Query) → Derives MAX_NESTING_DEPTH text.now t → Answers result t }
+    ensures complete { (t : Query) → Derives MAX_NESTING_DEPTH text.now t → Answers result t }
 
     // At Ok no other tree is spelled, each of its number literals with a value or without.
     ensures one_tree { (t : Query) → Spells SpellsNumber t text.now → IfOk result (λ q. query_view q ≡ t) }
@@ -132,7 +132,7 @@ pub fn parse_json_path(alloc: Global, text: &str) -> Parsed<JpQuery>
 #[tactic(auto, using(crate::proofs::Whole::read_derives, crate::proofs::Whole::read_only, crate::proofs::Whole::refused_only, crate::proofs::Whole::read_one, crate::proofs::Whole::refusal_of))]
 pub fn parse_json_path_within(alloc: Global, text: &str, depth: usize) -> Parsed<JpQuery>
     ensures derived { IfOk result (λ q. Derives depth text.now (query_view q)) }
-    ensures only { (t : Query) → Derives depth text.now t → Answers result t }
+    ensures complete { (t : Query) → Derives depth text.now t → Answers result t }
     ensures one_tree { (t : Query) → Spells SpellsNumber t text.now → IfOk result (λ q. query_view q ≡ t) }
     ensures normal { (l : Location) → IsNormal l text.now → HasIndexesInRange l → 1 ≤ depth → Answers result (steps_query l) }
     ensures refused { IfErr result (IsRefusal depth text.now) }

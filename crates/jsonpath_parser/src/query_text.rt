@@ -4,11 +4,11 @@ ghost use Rattle.jsonpath_parser.specs.Prelude.{depth, Derives, OutOfMemory, que
 ghost use Rattle.jsonpath_parser.specs.inner.ReadingQuery as reading;
 
 use crate::errors::{JsonPathError, Parsed};
-use crate::grammar::Numbers;
+use crate::grammar::NumberMode;
 use crate::parse::typed_query;
 use crate::tree::model::JpQuery;
 use crate::tree::written;
-use crate::words::stop::Stop;
+use crate::words::parse_error::ParseError;
 use std::alloc::Global;
 
 /// Whether the text is the query of this tree, however deep it nests.
@@ -17,10 +17,10 @@ fn reads_back(alloc: Global, text: &str, query: &JpQuery) -> Parsed<bool>
     ensures read { IfOk result (λ b. IsTrue b ↔ (reading.typed_query Valued text.now ≡ Some (query_view query.now))) }
     ensures memory { IfErr result (λ e. e ≡ OutOfMemory) }
 {
-    match typed_query(alloc, Numbers::Valued, text) {
+    match typed_query(alloc, NumberMode::Valued, text) {
         Ok(read) => Ok(read == *query),
-        Err(Stop::Memory) => Err(JsonPathError::OutOfMemory),
-        Err(Stop::Syntax(_)) => Ok(false),
+        Err(ParseError::Memory) => Err(JsonPathError::OutOfMemory),
+        Err(ParseError::Syntax(_)) => Ok(false),
     }
 }
 

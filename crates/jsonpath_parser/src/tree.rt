@@ -9,7 +9,7 @@ pub mod typing;
 pub mod written;
 
 pub use equality::equal_parts_are_one_tree;
-pub use model::call::call_of;
-pub use reach::{calls_only, is_local, is_singular};
-pub use release::let_go;
+pub use model::call::{are_steps, call_of};
+pub use reach::{first_unknown_function, is_local, is_singular};
+pub use release::drop_query;
 pub use typing::is_typed;

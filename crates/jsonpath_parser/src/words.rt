@@ -3,7 +3,7 @@
 pub mod depth;
 pub mod int;
 pub mod number;
+pub mod parse_error;
 pub mod quoting;
-pub mod stop;
 pub mod string;
 pub mod text;

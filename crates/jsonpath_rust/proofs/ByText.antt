@@ -10,14 +10,14 @@ pub by_text : {X : Type 0} (limit : ℕ) (text : List ℕ) (p q : Query) (doc : 
     → Derives limit text p → ((t : Query) → Derives limit text t → p ≡ t) → ((l : Location) → IsNormal l text → HasIndexesInRange l → 1 ≤ limit → p ≡ steps_query l)
     → ((l : Location) (x : X) → IsNormal l text → q ≡ steps_query l → Is doc q x → IsAt doc text l x) → IfOk r (Is doc q) → IfErr r (IsStop q doc) → ByText limit text doc Is IsAt r
 by_text limit text p q doc Is IsAt (Ok x) asked derived only normal there told refused = record {
-  answered = record { query = p; derived = derived; told = subst (λ s. Is doc s x) asked told };
-  only = λ t d. subst (λ s. Is doc s x) (asked ∙ only t d) told;
+  outcome = record { query = p; derived = derived; outcome = subst (λ s. Is doc s x) asked told };
+  complete = λ t d. subst (λ s. Is doc s x) (asked ∙ only t d) told;
   normal = λ l is small deep. there l x is (asked ∙ normal l is small deep) told;
   refused = tt;
 }
 by_text limit text p q doc Is IsAt (Err e) asked derived only normal there told refused = record {
-  answered = tt;
-  only = λ t d. subst (λ s. IsStop s doc e) (asked ∙ only t d) refused;
+  outcome = tt;
+  complete = λ t d. subst (λ s. IsStop s doc e) (asked ∙ only t d) refused;
   normal = λ l is small deep. stop_is_memory q doc e (ap segments_patterns (asked ∙ normal l is small deep) ∙ steps_patterns l) refused;
   refused = inr (p, derived, subst (λ s. IsStop s doc e) asked refused);
 }
@@ -26,8 +26,8 @@ by_text limit text p q doc Is IsAt (Err e) asked derived only normal there told 
 pub by_refusal : {X : Type 0} (limit : ℕ) (text : List ℕ) (doc : Document) (Is : Document → Query → X → Type 0) (IsAt : Document → List ℕ → Location → X → Type 0) (e : JsonPathError)
     → ((t : Query) → Derives limit text t → e ≡ OutOfMemory) → ((l : Location) → IsNormal l text → HasIndexesInRange l → 1 ≤ limit → e ≡ OutOfMemory) → IsRefusal limit text e → ByText limit text doc Is IsAt (Err e)
 by_refusal limit text doc Is IsAt e only normal refused = record {
-  answered = tt;
-  only = λ t d other. absurd (other (only t d));
+  outcome = tt;
+  complete = λ t d other. absurd (other (only t d));
   normal = normal;
   refused = inl refused;
 }

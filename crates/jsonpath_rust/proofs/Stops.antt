@@ -1,10 +1,10 @@
 -- What a caller is told of a walk that halted, under whatever limit.
 use Rattle.std.proofs.Common.{◌≡◌, [], ◌++◌, Bool, IsTrue, refl, ap, subst}
 use Rattle.jsonpath_base.specs.Prelude.Documents.{absolute, and, call, compare, descendant, Document, Filter, filter, group, is_singular, no_segments, one, or, Query, relative, segment, segments_patterns, several, slice, test, wildcard}
-use Rattle.jsonpath_rust.specs.Prelude.Documents.{Halt}
-use Rattle.jsonpath_rust.specs.Prelude.Selection.{filter_query, IsConditionStop, IsHalt, IsStopOf, limit_of, Limit, tests_singular}
+use Rattle.jsonpath_rust.specs.Prelude.Documents.{WalkError}
+use Rattle.jsonpath_rust.specs.Prelude.Selection.{filter_query, IsConditionStop, IsWalkError, IsStopOf, limit_of, WorkLimit, tests_singular}
 use Rattle.jsonpath_parser.specs.tree.Syntax.{name, index}
-use Rattle.jsonpath_base.specs.declared.documents.halt.Halt.TheVariants as halt
+use Rattle.jsonpath_base.specs.declared.documents.walk_error.WalkError.TheVariants as halt
 
 -- ---- a call that is free asks no pattern
 
@@ -32,17 +32,17 @@ singular_test_patterns (compare op a b) h = absurd cc
 -- ---- so what a limit says of a halt holds of a query, and of a condition
 
 -- what a limit says of a halt that it makes a stop
-abbrev pub Says : {S : Type 0} → Bool → (Bool → Query → Document → S → Type 0) → Halt → S → Type 0
+abbrev pub Says : {S : Type 0} → Bool → (Bool → Query → Document → S → Type 0) → WalkError → S → Type 0
 Says counts stops cause stop =
-    (free : Bool) (q : Query) (doc : Document) → (IsTrue free → segments_patterns q ≡ []) → IsHalt (limit_of counts free) (segments_patterns q) doc cause → stops free q doc stop
+    (free : Bool) (q : Query) (doc : Document) → (IsTrue free → segments_patterns q ≡ []) → IsWalkError (limit_of counts free) (segments_patterns q) doc cause → stops free q doc stop
 
-pub query_stops : {S : Type 0} (counts : Bool) (stops : Bool → Query → Document → S → Type 0) (q : Query) (doc : Document) (limit : Limit) (cause : Halt) (stop : S) → Says counts stops cause stop
-    → limit ≡ limit_of counts (is_singular q) → IsHalt limit (segments_patterns q) doc cause → IsStopOf stops q doc stop
-query_stops counts stops q doc limit cause stop says same h = says (is_singular q) q doc (singular_patterns q) (subst (λ l. IsHalt l (segments_patterns q) doc cause) same h)
+pub query_stops : {S : Type 0} (counts : Bool) (stops : Bool → Query → Document → S → Type 0) (q : Query) (doc : Document) (limit : WorkLimit) (cause : WalkError) (stop : S) → Says counts stops cause stop
+    → limit ≡ limit_of counts (is_singular q) → IsWalkError limit (segments_patterns q) doc cause → IsStopOf stops q doc stop
+query_stops counts stops q doc limit cause stop says same h = says (is_singular q) q doc (singular_patterns q) (subst (λ l. IsWalkError l (segments_patterns q) doc cause) same h)
 
-pub condition_stops : {S : Type 0} (counts : Bool) (stops : Bool → Query → Document → S → Type 0) (f : Filter) (doc : Document) (limit : Limit) (cause : Halt) (stop : S) → Says counts stops cause stop
-    → limit ≡ limit_of counts (tests_singular f) → IsHalt limit (segments_patterns (filter_query f)) doc cause → IsConditionStop stops f doc stop
-condition_stops counts stops f doc limit cause stop says same h = says (tests_singular f) (filter_query f) doc (singular_test_patterns f) (subst (λ l. IsHalt l (segments_patterns (filter_query f)) doc cause) same h)
+pub condition_stops : {S : Type 0} (counts : Bool) (stops : Bool → Query → Document → S → Type 0) (f : Filter) (doc : Document) (limit : WorkLimit) (cause : WalkError) (stop : S) → Says counts stops cause stop
+    → limit ≡ limit_of counts (tests_singular f) → IsWalkError limit (segments_patterns (filter_query f)) doc cause → IsConditionStop stops f doc stop
+condition_stops counts stops f doc limit cause stop says same h = says (tests_singular f) (filter_query f) doc (singular_test_patterns f) (subst (λ l. IsWalkError l (segments_patterns (filter_query f)) doc cause) same h)
 
 -- of want of memory
 pub memory_stops : {S : Type 0} (counts : Bool) (stops : Bool → Query → Document → S → Type 0) (q : Query) (doc : Document) (stop : S) → Says counts stops halt.Memory stop → IsStopOf stops q doc stop

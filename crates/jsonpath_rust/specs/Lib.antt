@@ -23,7 +23,7 @@ pub use Rattle.jsonpath_base.specs.documents.Confining
 pub use Rattle.jsonpath_base.specs.documents.Masking
 pub use Rattle.jsonpath_rust.specs.selection.Only
 pub use Rattle.jsonpath_rust.specs.selection.Prepared
-pub use Rattle.jsonpath_rust.specs.selection.Stop
+pub use Rattle.jsonpath_rust.specs.selection.LimitError
 pub use Rattle.jsonpath_rust.specs.selection.Condition
 pub use Rattle.jsonpath_base.specs.documents.State
 pub use Rattle.jsonpath_rust.specs.states.Process
@@ -37,7 +37,7 @@ pub use Rattle.jsonpath_parser.specs.Normal
 pub use Rattle.jsonpath_parser.specs.declared.errors.JsonPathError
 pub use Rattle.jsonpath_parser.specs.Lexical
 pub use Rattle.jsonpath_parser.specs.Strings
-pub use Rattle.jsonpath_parser.specs.Numbers
+pub use Rattle.jsonpath_parser.specs.PatternTable
 pub use Rattle.jsonpath_parser.specs.Depth
 pub use Rattle.jsonpath_parser.specs.tree.Syntax
 pub use Rattle.jsonpath_parser.specs.tree.View
@@ -54,7 +54,7 @@ pub use Rattle.jsonpath_parser.specs.Derives
 pub use Rattle.jsonpath_parser.specs.Unambiguous
 pub use Rattle.jsonpath_base.specs.Tree
 pub use Rattle.jsonpath_base.specs.Places
-pub use Rattle.jsonpath_base.specs.FixedPart
+pub use Rattle.jsonpath_base.specs.ConstantPrefix
 pub use Rattle.jsonpath_base.specs.Put
 pub use Rattle.jsonpath_base.specs.Added
 pub use Rattle.jsonpath_base.specs.Pointer

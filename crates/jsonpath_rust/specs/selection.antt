@@ -1,5 +1,5 @@
 pub mod Condition
 pub mod Only
 pub mod Prepared
-pub mod Stop
+pub mod LimitError
 pub mod inner

@@ -7,8 +7,8 @@ use crate::documents::whole::{Whole, WholeRef};
 
 mod changes;
 mod edits;
-mod lent;
 mod read;
+mod whole_ref;
 
 pub use crate::checked::read::ReadError;
 
@@ -50,6 +50,7 @@ impl<T: Queryable> Whole<T> {
     }
 
     /// The same, borrowed, as a value that is whole.
+    #[inline(always)]
     pub fn as_ref(&self) -> WholeRef<'_, T>
         ensures { result.value.now ≡ self.now.value }
     {

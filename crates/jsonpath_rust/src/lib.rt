@@ -17,8 +17,8 @@ pub use crate::documents::whole::{Whole, WholeRef};
 pub use crate::json_path::JsonPath;
 pub use crate::query::queryable::{Deletable, Queryable};
 pub use crate::query::{
-    Condition, ConditionRunner, Limits, Only, Prepared, PreparedRef, Runner, Step, Stop, Units,
-    Unlimited,
+    Condition, ConditionRunner, Limit, LimitError, Only, Prepared, PreparedRef, Runner, Step,
+    Units, Unlimited,
 };
 pub use jsonpath_build as build;
 pub use jsonpath_parser as parser;

@@ -20,12 +20,13 @@ pub use crate::query::deletion::delete_within;
 pub use crate::query::location::{location_by_path, location_of};
 pub use crate::query::masking::{replace_all_by_path, replace_within};
 pub use crate::selection::{
-    Condition, ConditionRunner, Limits, Only, Prepared, PreparedRef, Runner, Stop, Units, Unlimited,
+    Condition, ConditionRunner, Limit, LimitError, Only, Prepared, PreparedRef, Runner, Units,
+    Unlimited,
 };
 pub use crate::states::{Query, apply, selector, state};
 use crate::states::{processed_nodes, processed_values};
 pub use jsonpath_base::{
-    Step, add_at, at, at_mut, fixed_steps, location_by_pointer, path_of, pointer_of, put_at,
+    Step, add_at, at, at_mut, constant_prefix, location_by_pointer, path_of, pointer_of, put_at,
     remove_all, replace_all, starts_with, step_by_token, take_at,
 };
 use jsonpath_parser::model::JpQuery;

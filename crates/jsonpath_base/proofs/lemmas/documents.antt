@@ -21,7 +21,7 @@ pub use Rattle.jsonpath_base.proofs.lemmas.documents.LendingLaws.{Answer, answer
 pub use Rattle.jsonpath_base.proofs.lemmas.documents.Locating.{no_location, normalized_path_derives_its_steps, only_location, own_location, selected_is_there, steps_select_their_location, whole_location}
 pub use Rattle.jsonpath_base.proofs.lemmas.documents.Masking.{masking_all_tells_nothing, masking_tells_nothing}
 pub use Rattle.jsonpath_base.proofs.lemmas.documents.NamedBelow.{named_below, named_is_masked}
-pub use Rattle.jsonpath_base.proofs.lemmas.documents.NodesAt.{at-append, at-below, each-append, each-filter, each-flat_map, each_at, member_there, nodes_at, Stands, stands-indexed, stands-picks, stands-subtree}
+pub use Rattle.jsonpath_base.proofs.lemmas.documents.NodesAt.{at-append, at-below, each-append, each-filter, each-flat_map, each_at, member_there, nodes_at, IsPositioned, stands-indexed, stands-picks, stands-subtree}
 pub use Rattle.jsonpath_base.proofs.lemmas.documents.NormalSteps.{normal_answered, normal_put, normal_reference, selected-steps}
 pub use Rattle.jsonpath_base.proofs.lemmas.documents.Parts.{all_more, contains_part, differs, each_failed, each_next, err_so, filter_more, fold_next, get_or-self, joined_end, joined_next, kept_false, kept_true, ok_through, pairs_apart, part_of, parts_end, passed_on, some_found, some_next}
 pub use Rattle.jsonpath_base.proofs.lemmas.documents.Singular.{relative_value, singular_trees}

@@ -22,12 +22,12 @@ pub use Rattle.jsonpath_parser.specs.tree.Steps.{HasIndexesInRange, step_segment
 pub use Rattle.jsonpath_parser.specs.tree.Syntax.{absolute, and, Argument, argument, Arguments, Call, call, compare, count_call, custom_call, descendant, equal, Filter, filter, filter_argument, filter_then, Filters, greater, greater_or_equal, group, length_call, less, less_or_equal, literal_argument, match_call, no_arguments, no_filters, no_segments, no_selectors, not_equal, one, or, Query, relative, search_call, Segment, segment, Segments, Selector, selector, Selectors, several, slice, Test, test, test_argument, value_call, wildcard}
 pub use Rattle.jsonpath_parser.specs.tree.Typing.{are_typed_arguments, are_typed_filters, are_typed_selectors, gives_value, is_query_argument, is_singular, is_step, is_truth_test, is_typed, is_typed_argument, is_typed_call, is_typed_filter, is_typed_segment, is_typed_selector, is_typed_side, is_typed_test, is_value_argument, is_value_test, takes}
 pub use Rattle.jsonpath_parser.specs.tree.View.{argument_view, arguments_of, atom_view, call_view, comparable_view, comparison_view, filter_view, filters_of, literal_view, operator_view, query_view, segment_view, segments_of, selector_view, selectors_of, singular_view, step_view, test_view}
-pub use Rattle.jsonpath_base.specs.FixedPart.{fixed_part, fixed_step}
+pub use Rattle.jsonpath_base.specs.ConstantPrefix.{constant_prefix, fixed_step}
 pub use Rattle.jsonpath_base.specs.Overwritten.{overwritten}
 pub use Rattle.jsonpath_base.specs.Pattern.{is_entire, IsInvalid}
 pub use Rattle.jsonpath_base.specs.Places.{at, child, item_at}
 pub use Rattle.jsonpath_base.specs.Put.{put}
-pub use Rattle.jsonpath_base.specs.RemovalViews.{LastBegins, removal_count, removal_set}
+pub use Rattle.jsonpath_base.specs.LocationSetViews.{LastBegins, location_count, location_set}
 pub use Rattle.jsonpath_base.specs.Same.{same}
 pub use Rattle.jsonpath_parser.specs.Slice.{slice_of}
 pub use Rattle.jsonpath_parser.specs.SliceSteps.{places_left}
@@ -35,11 +35,11 @@ pub use Rattle.jsonpath_base.specs.Steps.{lent_location, lent_step, location_vie
 pub use Rattle.jsonpath_base.specs.Tree.{are_distinct, as_bool, as_int, as_list, as_members, as_text, elements, find, get, has_distinct_names, list, member, Members, members_distinct, no_members, no_trees, null, number, object, pairs, text, Tree, tree, Trees, trees_distinct, truth}
 pub use Rattle.jsonpath_base.specs.Values.{has_whole_numbers, items_whole, members_of, tree_of_number, trees_of, value_is_whole, value_tree}
 pub use Rattle.jsonpath_base.specs.Without.{also, counted_with, distinct_count, is_among, without}
-pub use Rattle.jsonpath_base.specs.declared.removal.Removal.{Removal}
+pub use Rattle.jsonpath_base.specs.declared.removal.LocationSet.{LocationSet}
 pub use Rattle.jsonpath_base.specs.declared.step.StepRef.{StepRef}
 pub use Rattle.jsonpath_base.specs.declared.step.StepRef.TheVariants.{Index, Name}
-pub use Rattle.jsonpath_base.specs.declared.documents.halt.Halt.{Halt}
-pub use Rattle.jsonpath_base.specs.declared.documents.halt.Halt.TheVariants.{Memory, Pattern, Spent}
+pub use Rattle.jsonpath_base.specs.declared.documents.walk_error.WalkError.{WalkError}
+pub use Rattle.jsonpath_base.specs.declared.documents.walk_error.WalkError.TheVariants.{Memory, Pattern, Spent}
 pub use Rattle.jsonpath_base.specs.declared.documents.queryable.Queryable.{Ghosts}
 pub use Rattle.jsonpath_base.specs.documents.Answer.{AreLocations, AreNodes, ArePaths, AreValues, AsManyAreListed, IsNodeAt, IsNodeThere, IsPathAt, IsPathThere, IsValueAt, IsValueThere, node_there, paths_of, shown}
 pub use Rattle.jsonpath_base.specs.documents.Comparing.{are_equal, compares, is_below}

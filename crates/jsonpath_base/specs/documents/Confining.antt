@@ -4,7 +4,7 @@ use Rattle.jsonpath_parser.specs.Location.{Location, Begins}
 use Rattle.jsonpath_parser.specs.tree.Reach.{is_local}
 use Rattle.jsonpath_parser.specs.tree.Syntax.{Query}
 use Rattle.jsonpath_parser.specs.tree.Typing.{is_singular}
-use Rattle.jsonpath_base.specs.FixedPart.{fixed_part}
+use Rattle.jsonpath_base.specs.ConstantPrefix.{constant_prefix}
 use Rattle.jsonpath_base.specs.Places.{at}
 use Rattle.jsonpath_base.specs.documents.Document.{Document}
 use Rattle.jsonpath_base.specs.documents.Meaning.{selected}
@@ -15,7 +15,7 @@ SingularSelectsOneAtMost = (q : Query) (doc : Document) → IsTrue (is_singular 
 
 -- Each location that a query selects begins with its fixed part (2.1.2).
 abbrev pub SelectedBeginsWithFixedPart : Type 0
-SelectedBeginsWithFixedPart = (q : Query) (doc : Document) → All (Begins (fixed_part q)) (selected q doc)
+SelectedBeginsWithFixedPart = (q : Query) (doc : Document) → All (Begins (constant_prefix q)) (selected q doc)
 
 -- The two documents have the same custom functions, and at the location the same value, or both none.
 pub record AgreeAt (part : Location) (d e : Document) : Type 0 where
@@ -31,4 +31,4 @@ pub record IsConfinedTo (part : Location) (q : Query) : Type 0 where
 
 -- A query with no `$` in its filters is confined to its fixed part, and to all with which that begins (2.3.5).
 abbrev pub LocalIsConfined : Type 0
-LocalIsConfined = (q : Query) (part : Location) → IsTrue (is_local q) → Begins part (fixed_part q) → IsConfinedTo part q
+LocalIsConfined = (q : Query) (part : Location) → IsTrue (is_local q) → Begins part (constant_prefix q) → IsConfinedTo part q

@@ -24,7 +24,7 @@ use Rattle.jsonpath_base.specs.declared.step.Step.TheVariants.{Name, Index}
 
 -- the first of those that are left
 abbrev pub next : List Step → ℕ → Option Step
-next steps left = slice_get steps (length steps - left)
+next steps remaining = slice_get steps (length steps - remaining)
 
 abbrev pub has_index : Option Step → Bool
 has_index (Some (Index i)) = true
@@ -45,7 +45,7 @@ step_in None = location.index 0
 -- where the steps that are left lead
 abbrev pub rest : List Step → ℕ → Location
 rest steps zero = []
-rest steps (suc left) = step_in (next steps (suc left)) ∷ rest steps left
+rest steps (suc remaining) = step_in (next steps (suc remaining)) ∷ rest steps remaining
 
 -- ---- loans
 
@@ -69,4 +69,4 @@ LendsFound k s r = LendsMember k s (Some r)
 
 -- what stands where the steps that are left lead
 abbrev pub LendsRest : List Step → ℕ → MutBor Value → MutBor Value → Fml
-LendsRest steps left s r = follows_so the_row the_row s.ghost_name (maybe.some r.ghost_name) (λ w n. value_tree n ≡ put (rest steps left) (value_tree w) (value_tree s.now)) (λ n. ⊤)
+LendsRest steps remaining s r = follows_so the_row the_row s.ghost_name (maybe.some r.ghost_name) (λ w n. value_tree n ≡ put (rest steps remaining) (value_tree w) (value_tree s.now)) (λ n. ⊤)

@@ -6,9 +6,9 @@ use Rattle.serde_json.specs.Data.{Data, null, boolean, number, string, array, ob
 use Rattle.serde_json.specs.View.{view}
 use Rattle.serde_json.specs.declared.value.Value.{Value}
 use Rattle.jsonpath_parser.specs.Location.{name, index, Location}
-use Rattle.jsonpath_base.specs.inner.Marks.{to_member, is_key, marked_below, total}
-use Rattle.jsonpath_base.specs.declared.marks.Marks.{Marks, fold-Marks}
-use Rattle.jsonpath_base.specs.declared.marks.Marks.TheOpen.{Marks-F}
+use Rattle.jsonpath_base.specs.inner.LocationTries.{to_member, is_key, marked_below, total}
+use Rattle.jsonpath_base.specs.declared.location_trie.LocationTrie.{LocationTrie, fold-LocationTrie}
+use Rattle.jsonpath_base.specs.declared.location_trie.LocationTrie.TheOpen.{LocationTrie-F}
 
 abbrev mutual
   pub data_below : (Location → Bool) → Data → Data → Data
@@ -39,22 +39,22 @@ AreAll u vs = All (λ v. view v ≡ u) vs
 -- ---- one entry of marks after the other
 
 -- With the marks behind this element's, the list is overwritten as with its marks too.
-pub record IsFilledAt (i : ℕ) (m : Marks) (u : Data) (old new : Items) : Type 0 where
-  pub each : (es : List (ℕ × Marks)) → lookup (is_key index (index i)) es ≡ None → items_overwritten (marked_below index es) u 0 new ≡ items_overwritten (marked_below index ((i, m) ∷ es)) u 0 old
+pub record IsFilledAt (i : ℕ) (m : LocationTrie) (u : Data) (old new : Items) : Type 0 where
+  pub each : (es : List (ℕ × LocationTrie)) → lookup (is_key index (index i)) es ≡ None → items_overwritten (marked_below index es) u 0 new ≡ items_overwritten (marked_below index ((i, m) ∷ es)) u 0 old
 
 -- The same of a member.
-pub record IsFilledBy (k : String Global) (m : Marks) (u : Data) (old new : Members) : Type 0 where
-  pub each : (es : List (String Global × Marks)) → lookup (is_key to_member (to_member k)) es ≡ None → members_overwritten (marked_below to_member es) u new ≡ members_overwritten (marked_below to_member ((k, m) ∷ es)) u old
+pub record IsFilledBy (k : String Global) (m : LocationTrie) (u : Data) (old new : Members) : Type 0 where
+  pub each : (es : List (String Global × LocationTrie)) → lookup (is_key to_member (to_member k)) es ≡ None → members_overwritten (marked_below to_member es) u new ≡ members_overwritten (marked_below to_member ((k, m) ∷ es)) u old
 
 -- ---- how many of the locations lie inside no other
 
-abbrev pub outermost_step : Marks-F ℕ → ℕ
-outermost_step m = if m.here then 1 else total m.names.items + total m.indexes.items
+abbrev pub outermost_step : LocationTrie-F ℕ → ℕ
+outermost_step m = if m.is_marked then 1 else total m.names.items + total m.indexes.items
 
-abbrev pub outermost_count : Marks → ℕ
-outermost_count = fold-Marks ℕ outermost_step
+abbrev pub outermost_count : LocationTrie → ℕ
+outermost_count = fold-LocationTrie ℕ outermost_step
 
 -- the same of the entries of one level
-abbrev pub outermost_total : {K : Type 0} → List (K × Marks) → ℕ
+abbrev pub outermost_total : {K : Type 0} → List (K × LocationTrie) → ℕ
 outermost_total [] = 0
 outermost_total (e ∷ es) = outermost_count e.1 + outermost_total es

@@ -4,8 +4,8 @@ use Rattle.std.specs.Global.{Global}
 use Rattle.std.specs.Map.{lookup}
 use Rattle.serde_json.specs.Data.{Data, null, boolean, number, string, array, object, Items, no_items, item, Members, no_members, member}
 use Rattle.jsonpath_parser.specs.Location.{name, index, Location}
-use Rattle.jsonpath_base.specs.inner.Marks.{to_member, is_key, marked, marked_by, marked_below}
-use Rattle.jsonpath_base.specs.declared.marks.Marks.{Marks}
+use Rattle.jsonpath_base.specs.inner.LocationTries.{to_member, is_key, marked, marked_by, marked_below}
+use Rattle.jsonpath_base.specs.declared.location_trie.LocationTrie.{LocationTrie}
 
 abbrev mutual
   pub data_thinned : (Location → Bool) → Data → Data
@@ -28,24 +28,24 @@ abbrev mutual
 
 -- ---- a list in two steps: first below its elements, then the elements
 
-abbrev pub thinned_by : Option Marks → Data → Data
+abbrev pub thinned_by : Option LocationTrie → Data → Data
 thinned_by None d = d
 thinned_by (Some m) d = if marked m [] then d else data_thinned (marked m) d
 
-abbrev pub thinned_below : List (ℕ × Marks) → ℕ → Items → Items
+abbrev pub thinned_below : List (ℕ × LocationTrie) → ℕ → Items → Items
 thinned_below es i no_items = no_items
 thinned_below es i (item d ds) = item (thinned_by (lookup (is_key index (index i)) es) d) (thinned_below es (suc i) ds)
 
-abbrev pub sieved : List (ℕ × Marks) → ℕ → Items → Items
+abbrev pub sieved : List (ℕ × LocationTrie) → ℕ → Items → Items
 sieved es i no_items = no_items
 sieved es i (item d ds) = if marked_by (lookup (is_key index (index i)) es) [] then sieved es (suc i) ds else item d (sieved es (suc i) ds)
 
 -- ---- one entry of marks after the other
 
 -- With the marks behind this element's, the list is thinned as with its marks too.
-pub record IsThinnedAt (i : ℕ) (m : Marks) (old new : Items) : Type 0 where
-  pub each : (es : List (ℕ × Marks)) → lookup (is_key index (index i)) es ≡ None → thinned_below es 0 new ≡ thinned_below ((i, m) ∷ es) 0 old
+pub record IsThinnedAt (i : ℕ) (m : LocationTrie) (old new : Items) : Type 0 where
+  pub each : (es : List (ℕ × LocationTrie)) → lookup (is_key index (index i)) es ≡ None → thinned_below es 0 new ≡ thinned_below ((i, m) ∷ es) 0 old
 
 -- The same of a member.
-pub record IsThinnedBy (k : String Global) (m : Marks) (old new : Members) : Type 0 where
-  pub each : (es : List (String Global × Marks)) → lookup (is_key to_member (to_member k)) es ≡ None → members_thinned (marked_below to_member es) new ≡ members_thinned (marked_below to_member ((k, m) ∷ es)) old
+pub record IsThinnedBy (k : String Global) (m : LocationTrie) (old new : Members) : Type 0 where
+  pub each : (es : List (String Global × LocationTrie)) → lookup (is_key to_member (to_member k)) es ≡ None → members_thinned (marked_below to_member es) new ≡ members_thinned (marked_below to_member ((k, m) ∷ es)) old

@@ -2,8 +2,8 @@
 ghost use Rattle.std.specs.Prelude.{◌≡◌, IfErr};
 ghost use Rattle.jsonpath_base.specs.Prelude.Documents.{Memory};
 
-use crate::documents::halt::Walked;
 use crate::documents::queryable::Queryable;
+use crate::documents::walk_error::WalkResult;
 use std::alloc::Global;
 
 /// Whether lists and objects stand in one another more than `levels` deep, the value itself
@@ -15,7 +15,7 @@ pub fn is_deeper<T: Queryable>(
     value: &T,
     levels: usize,
     looks: &mut usize,
-) -> Walked<bool>
+) -> WalkResult<bool>
     ensures { IfErr result (λ h. h ≡ Memory) }
 {
     if let Some(items) = value.as_array() {
@@ -45,7 +45,7 @@ fn is_list_deeper<T: Queryable>(
     items: &Vec<T>,
     levels: usize,
     looks: &mut usize,
-) -> Walked<bool>
+) -> WalkResult<bool>
     ensures { IfErr result (λ h. h ≡ Memory) }
 {
     if levels == 0 {
@@ -70,7 +70,7 @@ fn is_member_deeper<T: Queryable>(
     members: &Vec<(&str, &T)>,
     levels: usize,
     looks: &mut usize,
-) -> Walked<bool>
+) -> WalkResult<bool>
     ensures { IfErr result (λ h. h ≡ Memory) }
 {
     for member in members {

@@ -30,7 +30,7 @@ pub fn referred_mut<'v>(
 {
     let sought = seek(alloc, value, path);
     let lent = lend_sought(value, &sought);
-    answered(sought, lent)
+    answer(sought, lent)
 }
 
 /// What a text means.
@@ -76,7 +76,7 @@ fn lend_sought<'v>(value: &'v mut Value, sought: &Sought) -> Option<&'v mut Valu
 }
 
 /// What is lent, or the refusal.
-fn answered<'v>(sought: Sought, lent: Option<&'v mut Value>) -> Queried<Option<&'v mut Value>>
+fn answer<'v>(sought: Sought, lent: Option<&'v mut Value>) -> Queried<Option<&'v mut Value>>
     ensures { result ≡ answer_of sought.steps lent.entry }
 {
     match sought.steps {

@@ -12,7 +12,7 @@ use crate::documents::queryable::children::element_of;
 use crate::{Step, put_at};
 use jsonpath_parser::errors::JsonPathError;
 use jsonpath_parser::model::{Segment, Selector};
-use jsonpath_parser::{let_go, parse_json_path};
+use jsonpath_parser::{drop_query, parse_json_path};
 use serde_json::Value;
 use std::alloc::Global;
 
@@ -44,7 +44,7 @@ pub fn replace_by_path(alloc: Global, value: &mut Value, path: &str, new: Value)
         IfOk result (λ found. IsPut l (value_tree value.old) (value_tree new) found
         (value_tree value.new)) }
     ensures whole { IsTrue (value_is_whole value.old) → IsTrue (value_is_whole new) → IsTrue (value_is_whole value.new) }
-    ensures kept { OnErr result (value.new ≡ value.old) }
+    ensures unchanged_on_error { OnErr result (value.new ≡ value.old) }
     ensures memory { IfErr result (λ e. e ≡ OutOfMemory) }
 {
     match referred_location(alloc, value, path)? {
@@ -98,7 +98,7 @@ fn referent_of<'v>(alloc: Global, value: &'v Value, path: &str) -> Queried<Optio
     match parse_json_path(alloc, path) {
         Ok(query) => {
             let referent = follow(alloc, &query.segments, value);
-            let_go(query);
+            drop_query(query);
             referent
         }
         Err(JsonPathError::OutOfMemory) => Err(JsonPathError::OutOfMemory),

@@ -1,4 +1,4 @@
-//! The parts of a value, lent for writing, and the steps that lead to them. Of the steps of a location, the last `left` ones
+//! The parts of a value, lent for writing, and the steps that lead to them. Of the steps of a location, the last `remaining` ones
 //! are still to be taken.
 ghost use Rattle.std.specs.Prelude.{◌≡◌, ◌<◌, ◌≤◌, IsSome, Some, length, option_map, slice_index_or, vec_len};
 ghost use Rattle.jsonpath_base.specs.Prelude.{as_array, as_object, has_index, index_in, is_entry, items_view, LendsMember, lookup, members_view, name_in, next, sem, view};
@@ -8,33 +8,33 @@ use crate::step::Step;
 use serde_json::{Map, Value};
 
 /// Whether the next step is an index.
-pub fn is_index(steps: &[Step], left: usize) -> bool
-    requires { (0 < left) × (left ≤ length steps.now) }
-    ensures { result ≡ has_index (next steps.now left) }
+pub fn is_index(steps: &[Step], remaining: usize) -> bool
+    requires { (0 < remaining) × (remaining ≤ length steps.now) }
+    ensures { result ≡ has_index (next steps.now remaining) }
 {
-    match &steps[steps.len() - left] {
+    match &steps[steps.len() - remaining] {
         Step::Index(_) => true,
         Step::Name(_) => false,
     }
 }
 
 /// The next step's index, and 0 for a name.
-fn next_index(steps: &[Step], left: usize) -> usize
-    requires { (0 < left) × (left ≤ length steps.now) }
-    ensures { result ≡ index_in (next steps.now left) }
+fn next_index(steps: &[Step], remaining: usize) -> usize
+    requires { (0 < remaining) × (remaining ≤ length steps.now) }
+    ensures { result ≡ index_in (next steps.now remaining) }
 {
-    match &steps[steps.len() - left] {
+    match &steps[steps.len() - remaining] {
         Step::Index(index) => *index,
         Step::Name(_) => 0,
     }
 }
 
 /// The next step's name, and the empty one for an index.
-fn next_name<'s>(steps: &'s [Step], left: usize) -> &'s str
-    requires { (0 < left) × (left ≤ length steps.now) }
-    ensures { result.now ≡ name_in (next steps.now left) }
+fn next_name<'s>(steps: &'s [Step], remaining: usize) -> &'s str
+    requires { (0 < remaining) × (remaining ≤ length steps.now) }
+    ensures { result.now ≡ name_in (next steps.now remaining) }
 {
-    match &steps[steps.len() - left] {
+    match &steps[steps.len() - remaining] {
         Step::Name(name) => name.as_str(),
         Step::Index(_) => "",
     }
@@ -59,12 +59,12 @@ fn item_mut(items: &mut Vec<Value>, index: usize) -> &mut Value
 }
 
 /// The element at the next step's index.
-pub fn item_at<'v>(items: &'v mut Vec<Value>, steps: &[Step], left: usize) -> &'v mut Value
-    requires { (0 < left) × (left ≤ length steps.now) × (index_in (next steps.now left) < vec_len items.old) }
-    ensures* writes_back { sem 𝓛 (LendsItem (index_in (next steps.now left)) items.entry result) }
-    ensures value { result.now ≡ slice_index_or items.old.items (index_in (next steps.now left)) result.now }
+pub fn item_at<'v>(items: &'v mut Vec<Value>, steps: &[Step], remaining: usize) -> &'v mut Value
+    requires { (0 < remaining) × (remaining ≤ length steps.now) × (index_in (next steps.now remaining) < vec_len items.old) }
+    ensures* writes_back { sem 𝓛 (LendsItem (index_in (next steps.now remaining)) items.entry result) }
+    ensures value { result.now ≡ slice_index_or items.old.items (index_in (next steps.now remaining)) result.now }
 {
-    item_mut(items, next_index(steps, left))
+    item_mut(items, next_index(steps, remaining))
 }
 
 /// The members of an object.
@@ -88,13 +88,13 @@ fn member_mut<'v>(map: &'v mut Map<String, Value>, key: &str) -> Option<&'v mut 
 pub fn member_by<'v>(
     map: &'v mut Map<String, Value>,
     steps: &[Step],
-    left: usize,
+    remaining: usize,
 ) -> Option<&'v mut Value>
-    requires { (0 < left) × (left ≤ length steps.now) }
-    ensures* writes_back { sem 𝓛 (LendsMember (name_in (next steps.now left)) map.entry result) }
-    ensures value { option_map (λ v. v.now) result ≡ lookup (is_entry (name_in (next steps.now left))) map.old.entries }
+    requires { (0 < remaining) × (remaining ≤ length steps.now) }
+    ensures* writes_back { sem 𝓛 (LendsMember (name_in (next steps.now remaining)) map.entry result) }
+    ensures value { option_map (λ v. v.now) result ≡ lookup (is_entry (name_in (next steps.now remaining))) map.old.entries }
 {
-    member_mut(map, next_name(steps, left))
+    member_mut(map, next_name(steps, remaining))
 }
 
 /// What is there.

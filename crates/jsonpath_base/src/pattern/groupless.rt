@@ -5,10 +5,10 @@ ghost use Rattle.regex.specs.Patterns.{find_str};
 ghost use Rattle.regex.specs.Utf8.{MatchesText};
 ghost use Rattle.regex_hir.specs.Meaning.{meaning};
 ghost use Rattle.regex_meta.specs.Programs.{pattern_of};
-ghost use Rattle.jsonpath_base.specs.Pattern.{reading, IsUnbuilt};
+ghost use Rattle.jsonpath_base.specs.Pattern.{reading, IsPatternBuildError};
 ghost use Rattle.jsonpath_base.specs.inner.Groups.{without_groups, IsTreeOf};
 
-use crate::pattern::unbuilt::{Built, Unbuilt};
+use crate::pattern::build_error::{Built, PatternBuildError};
 use regex_compile::Error;
 use regex_hir::Hir;
 use regex_meta::{Program, Searcher};
@@ -31,16 +31,16 @@ impl Regex {
     /// The regex of a text, or None where it has no reading.
     pub fn new(alloc: Global, text: &str) -> Built<Option<Regex>>
         ensures same { IfOk result (FindsSame (reading (chars text.now))) }
-        ensures refused { IfErr result (IsUnbuilt (reading (chars text.now))) }
+        ensures refused { IfErr result (IsPatternBuildError (reading (chars text.now))) }
     {
         let Some(tree) = tree_of(alloc, text)? else {
             return Ok(None);
         };
         match Program::new(alloc, tree, 1, MOST_BYTES) {
             Ok(program) => Ok(Some(Regex { program })),
-            Err(Error::OutOfMemory) => Err(Unbuilt::Memory),
-            Err(Error::TooBig) => Err(Unbuilt::TooLarge),
-            Err(Error::Malformed) => Err(Unbuilt::TooLarge),
+            Err(Error::OutOfMemory) => Err(PatternBuildError::Memory),
+            Err(Error::TooBig) => Err(PatternBuildError::TooLarge),
+            Err(Error::Malformed) => Err(PatternBuildError::TooLarge),
         }
     }
 
@@ -98,12 +98,12 @@ impl<'r> Matcher<'r> {
 /// The tree of a text without its groups, or None where it has no reading.
 fn tree_of(alloc: Global, text: &str) -> Built<Option<Hir>>
     ensures same { IfOk result (IsTreeOf (reading (chars text.now))) }
-    ensures refused { IfErr result (IsUnbuilt (reading (chars text.now))) }
+    ensures refused { IfErr result (IsPatternBuildError (reading (chars text.now))) }
 {
     let Parsed { hir, names } = match parse(alloc, text, &Config::default()) {
         Ok(parsed) => parsed,
         Err(error) => match error.kind {
-            ErrorKind::OutOfMemory => return Err(Unbuilt::Memory),
+            ErrorKind::OutOfMemory => return Err(PatternBuildError::Memory),
             _ => return Ok(None),
         },
     };

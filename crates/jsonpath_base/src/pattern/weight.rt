@@ -1,7 +1,7 @@
 //! How much a pattern takes of `regex`: estimates, from its text alone. Each is one pass over the text: `scale` reads it, `part` is
 //! what it puts together, `literals` what is copied for the parts.
 mod literals;
-mod part;
+mod piece;
 mod scale;
 
 use crate::pattern::weight::scale::Scale;

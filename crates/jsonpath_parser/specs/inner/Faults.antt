@@ -1,7 +1,7 @@
 -- What the code's one walk over a tree finds: the first fault, which is the name of a function that is not known, and no text for each other question.
 use Rattle.std.specs.Prelude.{ℕ, Bool, false, List, [], Option, Some, None, if◌then◌else◌}
 use Rattle.jsonpath_parser.specs.tree.Syntax.{Test, Call, Argument}
-use Rattle.jsonpath_parser.specs.tree.Typing.{Asked, is_truth_test, is_value_argument, takes}
+use Rattle.jsonpath_parser.specs.tree.Typing.{TreeFold, is_truth_test, is_value_argument, takes}
 use Rattle.jsonpath_parser.specs.tree.Reach.{is_one_of, or_else, other_name}
 use Rattle.jsonpath_parser.specs.declared.tree.asking.Question.{Question}
 use Rattle.jsonpath_parser.specs.declared.tree.asking.Question.TheVariants.{Typed, Local, Known}
@@ -29,5 +29,5 @@ call_fault Typed c = unless (takes c)
 call_fault Local c = None
 call_fault (Known names) c = other_name (is_one_of names.now) c
 
-abbrev pub faults : Question → Asked (Option (List ℕ))
+abbrev pub faults : Question → TreeFold (Option (List ℕ))
 faults q = record { none = None; both = or_else; of_test = test_fault q; of_side = side_fault q; of_root = root_fault q; of_call = call_fault q }

@@ -9,15 +9,15 @@ use Rattle.jsonpath_parser.specs.words.inner.Reading.{Read, ◌>>=◌, split_whi
 use Rattle.jsonpath_parser.specs.inner.ReadingLists.{found_then, many_at, separated_at}
 use Rattle.jsonpath_parser.specs.words.inner.ReadingNumbers.{number_at}
 use Rattle.jsonpath_parser.specs.words.inner.ReadingStrings.{string_at}
-use Rattle.jsonpath_parser.specs.declared.grammar.literals.Numbers.{Numbers}
-use Rattle.jsonpath_parser.specs.declared.grammar.literals.Numbers.TheVariants.{Valued, Any}
+use Rattle.jsonpath_parser.specs.declared.grammar.literals.NumberMode.{NumberMode}
+use Rattle.jsonpath_parser.specs.declared.grammar.literals.NumberMode.TheVariants.{Valued, Any}
 use Rattle.jsonpath_parser.specs.tree.Syntax.{Literal, number, string, bool, null, Operator, equal, not_equal, greater, greater_or_equal, less, less_or_equal, Selector, name, wildcard, index, slice, filter, Selectors, no_selectors, selector, Segment, one, several, descendant, Segments, no_segments, segment, Filter, or, and, Filters, no_filters, filter_then, group, test, compare, relative, absolute, call, Call, Argument, literal_argument, test_argument, filter_argument, Arguments, no_arguments, argument, Query, list_of}
 use Rattle.jsonpath_parser.specs.tree.Typing.{call_of}
 
 -- ---- how the code's values are seen
 
 -- a number literal as its value; one without a value is refused, or read as 0
-unfoldable pub number_reading : Numbers → List ℕ → Read (Option ℤ)
+unfoldable pub number_reading : NumberMode → List ℕ → Read (Option ℤ)
 number_reading Valued text = number_at text >>= (λ n. n.0 >>= (λ v. Some (Some v, n.1)))
 number_reading Any text = number_at text >>= (λ n. Some (Some (unwrap_or n.0 (pos 0)), n.1))
 

@@ -10,11 +10,11 @@ use Rattle.jsonpath_parser.specs.tree.Syntax.{Literal, Selector, slice, Segment,
 use Rattle.jsonpath_parser.specs.Valueless.{IsValuelessIn}
 use Rattle.jsonpath_parser.specs.declared.errors.JsonPathError.{JsonPathError}
 use Rattle.jsonpath_parser.specs.declared.errors.JsonPathError.TheVariants.{PestError, InvalidNumber, OutOfMemory}
-use Rattle.jsonpath_parser.specs.declared.grammar.literals.Numbers.{Numbers}
-use Rattle.jsonpath_parser.specs.declared.grammar.literals.Numbers.TheVariants.{Valued, Any}
+use Rattle.jsonpath_parser.specs.declared.grammar.literals.NumberMode.{NumberMode}
+use Rattle.jsonpath_parser.specs.declared.grammar.literals.NumberMode.TheVariants.{Valued, Any}
 use Rattle.jsonpath_parser.specs.declared.cursor.Cursor.{Cursor}
-use Rattle.jsonpath_parser.specs.declared.words.stop.Stop.{Stop}
-use Rattle.jsonpath_parser.specs.declared.words.stop.Stop.TheVariants.{Memory}
+use Rattle.jsonpath_parser.specs.declared.words.parse_error.ParseError.{ParseError}
+use Rattle.jsonpath_parser.specs.declared.words.parse_error.ParseError.TheVariants.{Memory}
 
 -- ---- what an operand, or a logical expression, is as another kind of tree
 
@@ -66,7 +66,7 @@ slice_in _ = None
 unfoldable pub taken_at : {X V : Type 0} → (X → Option V) → (V → Bool) → Read X → Read V
 taken_at take typed r = r >>= (λ x. take x.0 >>= (λ v. if typed v then Some (v, x.1) else None))
 
-module _ (numbers : Numbers) (text : List ℕ) where
+module _ (numbers : NumberMode) (text : List ℕ) where
   -- how an argument inside is read: no nesting is deeper than the text is long
   abbrev pub inner_at : List ℕ → Read Argument
   inner_at = argument_at (number_reading numbers) (length text)
@@ -101,7 +101,7 @@ module _ (numbers : Numbers) (text : List ℕ) where
 -- ---- refusals
 
 -- The refusal at a cursor, where reading stopped; `again` is what it is read as with any number literals. The place stands between two characters of the text or at an end of it.
-abbrev pub IsCursorRefusal : {T : Type 0} → Cursor → Stop → Result (T × Bor (List ℕ)) Stop → JsonPathError → Type 0
+abbrev pub IsCursorRefusal : {T : Type 0} → Cursor → ParseError → Result (T × Bor (List ℕ)) ParseError → JsonPathError → Type 0
 IsCursorRefusal c stop again (InvalidNumber said) = (stop ≡ Memory → ⊥) × IsValuelessIn (rest_of c) (string_bytes said) × IsOkAnd again (λ p. p.1.now ≡ [])
 IsCursorRefusal c stop again (PestError place) = IsCharBoundary (text_of c) place × (stop ≡ Memory → ⊥) × MatchResult again (λ p. p.1.now ≡ [] → ⊥) (λ e. e ≡ Memory → ⊥)
 IsCursorRefusal c stop again OutOfMemory = ⊤
@@ -109,19 +109,19 @@ IsCursorRefusal c stop again _ = ⊥
 
 -- ---- one reading of a kind of tree: what is read, how it is turned into a tree of the kind, and whether that is well-typed
 
-module _ {X T : Type 0} (reads : Numbers → Result (X × Bor (List ℕ)) Stop → Type 0) (takes : X → Result T Stop → Type 0) (checks : Bor T → Bool → Type 0) where
+module _ {X T : Type 0} (reads : NumberMode → Result (X × Bor (List ℕ)) ParseError → Type 0) (takes : X → Result T ParseError → Type 0) (checks : Bor T → Bool → Type 0) where
   -- a tree of the kind and the text after it, or what stopped the reading
-  abbrev pub Takes : Numbers → Result (T × Bor (List ℕ)) Stop → Type 0
-  Takes numbers (Ok p) = (x : X) × reads numbers (Ok (x, p.1)) × takes x (Ok p.0) × ((t : Bor T) × checks t true × (t.now ≡ p.0))
-  Takes numbers (Err e) = reads numbers (Err e) ⊎ ((p : X × Bor (List ℕ)) × reads numbers (Ok p) × (takes p.0 (Err e) ⊎ ((t : Bor T) × checks t false × takes p.0 (Ok t.now) × (e ≡ Memory → ⊥))))
+  abbrev pub Accepts : NumberMode → Result (T × Bor (List ℕ)) ParseError → Type 0
+  Accepts numbers (Ok p) = (x : X) × reads numbers (Ok (x, p.1)) × takes x (Ok p.0) × ((t : Bor T) × checks t true × (t.now ≡ p.0))
+  Accepts numbers (Err e) = reads numbers (Err e) ⊎ ((p : X × Bor (List ℕ)) × reads numbers (Ok p) × (takes p.0 (Err e) ⊎ ((t : Bor T) × checks t false × takes p.0 (Ok t.now) × (e ≡ Memory → ⊥))))
 
   -- where a tree is read, the cursor's text ends in what stands after it
   pub record StaysInText (c : Cursor) : Type 0 where
-    pub ends : (outcome : _) → Takes Valued outcome → IfOk outcome (λ p. drop (length (text_of c) - length p.1.now) (text_of c) ≡ p.1.now)
+    pub ends : (outcome : _) → Accepts Valued outcome → IfOk outcome (λ p. drop (length (text_of c) - length p.1.now) (text_of c) ≡ p.1.now)
 
   -- what a cursor's function answers, by what reading answers
   pub record IsAnswer (old new : Cursor) (result : Result T JsonPathError) : Type 0 where
-    pub tree : IfOk result (λ t. Takes Valued (Ok (t, new.rest)))
-    pub refusal : IfErr result (λ e. (stop : Stop) × Takes Valued (Err stop) × ((again : _) × Takes Any again × IsCursorRefusal old stop again e))
-    pub kept : OnErr result (new ≡ old)
+    pub tree : IfOk result (λ t. Accepts Valued (Ok (t, new.rest)))
+    pub refusal : IfErr result (λ e. (stop : ParseError) × Accepts Valued (Err stop) × ((again : _) × Accepts Any again × IsCursorRefusal old stop again e))
+    pub unchanged_on_error : OnErr result (new ≡ old)
     pub same : text_of new ≡ text_of old

@@ -9,11 +9,11 @@ use Rattle.jsonpath_parser.specs.tree.Typing.{is_typed}
 use Rattle.jsonpath_parser.specs.Valueless.{IsValuelessIn}
 use Rattle.jsonpath_parser.specs.declared.errors.JsonPathError.{JsonPathError}
 use Rattle.jsonpath_parser.specs.declared.errors.JsonPathError.TheVariants.{PestError, InvalidNumber, MaxNestingDepthExceeded, OutOfMemory}
-use Rattle.jsonpath_parser.specs.declared.grammar.literals.Numbers.{Numbers}
-use Rattle.jsonpath_parser.specs.declared.grammar.literals.Numbers.TheVariants.{Valued, Any}
+use Rattle.jsonpath_parser.specs.declared.grammar.literals.NumberMode.{NumberMode}
+use Rattle.jsonpath_parser.specs.declared.grammar.literals.NumberMode.TheVariants.{Valued, Any}
 
 -- the query that the whole text is, where it is well-typed
-unfoldable pub typed_query : Numbers → List ℕ → Option Query
+unfoldable pub typed_query : NumberMode → List ℕ → Option Query
 typed_query numbers text = whole_query (number_reading numbers) text >>= (λ q. if is_typed q then Some q else None)
 
 -- The refusals of a text that is no query: it would be one if each number literal had a value, or it is none. The place stands between two characters of the text or at an end of it.

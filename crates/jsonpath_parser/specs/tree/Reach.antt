@@ -3,10 +3,10 @@ use Rattle.std.specs.Prelude.{ℕ, Bool, true, false, ◌&&◌, bytes_eq, List, 
 use Rattle.std.specs.Borrow.{Bor}
 use Rattle.std.specs.List.{list_any}
 use Rattle.jsonpath_parser.specs.tree.Syntax.{Call, custom_call, Query}
-use Rattle.jsonpath_parser.specs.tree.Typing.{Asked, over_segments}
+use Rattle.jsonpath_parser.specs.tree.Typing.{TreeFold, over_segments}
 
 -- no query from the root
-abbrev pub locality : Asked Bool
+abbrev pub locality : TreeFold Bool
 locality = record { none = true; both = ◌&&◌; of_test = λ t. true; of_side = λ x. true; of_root = false; of_call = λ c. true }
 
 -- No filter has a `$`: no query from the root is a test, an argument of a call or a side of a comparison, at any depth (2.3.5). The `$` in front of the query stands in none.
@@ -27,7 +27,7 @@ abbrev pub other_name : (List ℕ → Bool) → Call → Option (List ℕ)
 other_name known (custom_call n xs) = if known n then None else Some n
 other_name known _ = None
 
-abbrev pub other_names : (List ℕ → Bool) → Asked (Option (List ℕ))
+abbrev pub other_names : (List ℕ → Bool) → TreeFold (Option (List ℕ))
 other_names known = record { none = None; both = or_else; of_test = λ t. None; of_side = λ x. None; of_root = None; of_call = other_name known }
 
 -- The first name, as the query is written, of a call of no known function, at any depth; that of a call stands before those in its arguments.

@@ -72,7 +72,7 @@ takes (match_call x y) = is_value_argument x && is_value_argument y
 
 -- What is asked of the parts of a query: something of each test that asks for a truth or for existence, of each side of a comparison, of each query
 -- from the root in a filter, and of each call. `none` is what a part without any gives, and `both` joins what two parts give, in order.
-pub record Asked (A : Type 0) : Type 0 where
+pub record TreeFold (A : Type 0) : Type 0 where
   pub none : A
   pub both : A → A → A
   pub of_test : Test → A
@@ -80,7 +80,7 @@ pub record Asked (A : Type 0) : Type 0 where
   pub of_root : A
   pub of_call : Call → A
 
-module _ {A : Type 0} (asked : Asked A) where
+module _ {A : Type 0} (asked : TreeFold A) where
   abbrev mutual
     pub over_segments : Segments → A
     over_segments no_segments = asked.none
@@ -137,7 +137,7 @@ module _ {A : Type 0} (asked : Asked A) where
   over_side x = asked.both (asked.of_side x) (over_argument x)
 
 -- every call takes its arguments, a call as a test gives a truth, and a side of a comparison gives a value
-abbrev pub typing : Asked Bool
+abbrev pub typing : TreeFold Bool
 typing = record { none = true; both = ◌&&◌; of_test = is_truth_test; of_side = is_value_argument; of_root = true; of_call = takes }
 
 -- the query is well-typed (2.4.3)

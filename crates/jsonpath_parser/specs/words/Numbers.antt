@@ -70,15 +70,15 @@ IsValue m point e None = (v : ℤ) → IsLong v → IsWhole m point e v → ⊥
 -- The text is a number literal of this value, or one without a value. Its digits before and after the point are one number with the sign; the exponent is counted from the last of them.
 pub record SpellsNumber (value : Option ℤ) (text : List ℕ) : Type 0 where
   pub minus : Bool
-  pub whole : List ℕ
+  pub integer : List ℕ
   pub fraction : List ℕ
   pub exponent : Exponent
   pub sign_text : List ℕ
   pub fraction_text : List ℕ
   pub exponent_text : List ℕ
   pub sign_spelled : SpellsSign minus sign_text
-  pub is_whole_part : IsWholePart whole
+  pub is_whole_part : IsWholePart integer
   pub fraction_spelled : SpellsFraction fraction fraction_text
   pub exponent_spelled : SpellsExponent exponent exponent_text
-  pub is_value : IsValue (signed minus (digits_value 10 (whole ++ fraction))) (length fraction) exponent value
-  pub spelled : text ≡ sign_text ++ (whole ++ (fraction_text ++ exponent_text))
+  pub is_value : IsValue (signed minus (digits_value 10 (integer ++ fraction))) (length fraction) exponent value
+  pub spelled : text ≡ sign_text ++ (integer ++ (fraction_text ++ exponent_text))

@@ -93,7 +93,7 @@ pub fn comparable(alloc: Global, cursor: &mut Cursor<'_>) -> Parsed<Comparable>
         alloc,
         cursor,
         productions::operand,
-        |operand, left| productions::comparable(alloc, operand, left),
+        |operand, remaining| productions::comparable(alloc, operand, remaining),
         typing::comparable,
     )
 }

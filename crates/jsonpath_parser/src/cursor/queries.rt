@@ -144,7 +144,7 @@ pub fn singular_query(alloc: Global, cursor: &mut Cursor<'_>) -> Parsed<Singular
         alloc,
         cursor,
         productions::operand,
-        |operand, left| productions::singular_in(alloc, operand, left),
+        |operand, remaining| productions::singular_in(alloc, operand, remaining),
         productions::has_no_call,
     )
 }
@@ -164,7 +164,7 @@ pub fn singular_query_segments(
         alloc,
         cursor,
         productions::segments,
-        |segments, left| productions::steps(alloc, segments, left),
+        |segments, remaining| productions::steps(alloc, segments, remaining),
         productions::has_no_call,
     )
 }

@@ -4,17 +4,21 @@ ghost use Rattle.jsonpath_parser.specs.Prelude.{arguments_view, call_view, numbe
 ghost use Rattle.jsonpath_parser.specs.inner.ReadingGrammar as spec;
 
 use super::filters::argument;
-use super::literals::Numbers;
+use super::literals::NumberMode;
 use crate::tree::call_of;
 use crate::tree::model::{FnArg, TestFunction};
-use crate::words::stop::Stop;
+use crate::words::parse_error::ParseError;
 use crate::words::text::{first, skip, skip_blank};
 use std::alloc::Global;
 
 /// Arguments with commas between them.
 #[cycle(reading)]
 #[tactic(auto, unfolding(crate::specs::inner::ReadingLists::separated_at))]
-fn some_arguments(alloc: Global, numbers: Numbers, s: &str) -> Result<(Vec<FnArg>, &str), Stop>
+fn some_arguments(
+    alloc: Global,
+    numbers: NumberMode,
+    s: &str,
+) -> Result<(Vec<FnArg>, &str), ParseError>
     ensures value { (n k : ℕ) → length s.now < n → length s.now < k → Reads arguments_view result (spec.arguments_at (number_reading numbers) (spec.argument_at (number_reading numbers) n) k s.now) }
     ensures shorter { IfOk result (λ p. length p.1.now < length s.now) }
 {
@@ -34,7 +38,7 @@ fn some_arguments(alloc: Global, numbers: Numbers, s: &str) -> Result<(Vec<FnArg
 /// Arguments, perhaps none, up to `)`.
 #[cycle(reading)]
 #[tactic(auto, unfolding(crate::specs::inner::ReadingGrammar::all_arguments_at))]
-fn arguments(alloc: Global, numbers: Numbers, s: &str) -> Result<(Vec<FnArg>, &str), Stop>
+fn arguments(alloc: Global, numbers: NumberMode, s: &str) -> Result<(Vec<FnArg>, &str), ParseError>
     ensures value { (n : ℕ) → length s.now < n → Reads arguments_view result (spec.all_arguments_at (number_reading numbers) (spec.argument_at (number_reading numbers) n) s.now) }
     ensures within { IfOk result (λ p. length p.1.now ≤ length s.now) }
 {
@@ -49,20 +53,20 @@ fn arguments(alloc: Global, numbers: Numbers, s: &str) -> Result<(Vec<FnArg>, &s
 #[tactic(auto, unfolding(crate::specs::inner::ReadingGrammar::called_at))]
 pub fn called<'s>(
     alloc: Global,
-    numbers: Numbers,
+    numbers: NumberMode,
     name: &str,
     s: &'s str,
-) -> Result<(TestFunction, &'s str), Stop>
+) -> Result<(TestFunction, &'s str), ParseError>
     ensures value { (n : ℕ) → length s.now < n → Reads call_view result (spec.called_at (number_reading numbers) (spec.argument_at (number_reading numbers) n) name.now s.now) }
     ensures shorter { IfOk result (λ p. length p.1.now < length s.now) }
 {
     let (args, after) = arguments(alloc, numbers, skip_blank(s))?;
     let end = skip_blank(after);
     if first(end) != b')' {
-        return Err(Stop::Syntax(end.len()));
+        return Err(ParseError::Syntax(end.len()));
     }
     match call_of(alloc, name, args)? {
         Some(call) => Ok((call, skip(end, 1))),
-        None => Err(Stop::Syntax(s.len())),
+        None => Err(ParseError::Syntax(s.len())),
     }
 }

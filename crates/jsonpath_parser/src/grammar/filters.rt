@@ -3,28 +3,33 @@ ghost use Rattle.std.specs.Prelude.{ℕ, ◌<◌, ◌≤◌, [], ◌∷◌, leng
 ghost use Rattle.jsonpath_parser.specs.Prelude.{argument_view, filter_then, filter_view, filters_view, found_then, number_reading, Reads};
 ghost use Rattle.jsonpath_parser.specs.inner.ReadingGrammar as spec;
 
-use super::literals::Numbers;
+use super::literals::NumberMode;
 use super::operands::{comparable, filter, negated_test, operand};
 use super::words::{is_operator_first, is_twice, read_operator};
 use crate::tree::model::{Filter, FilterAtom, FnArg};
-use crate::words::stop::Stop;
+use crate::words::parse_error::ParseError;
 use crate::words::text::{first, skip, skip_blank};
 use std::alloc::Global;
 
 /// A group in parentheses.
 #[cycle(reading)]
 #[tactic(auto, unfolding(crate::specs::inner::ReadingGrammar::group_at))]
-fn group(alloc: Global, numbers: Numbers, not: bool, s: &str) -> Result<(FnArg, &str), Stop>
+fn group(
+    alloc: Global,
+    numbers: NumberMode,
+    not: bool,
+    s: &str,
+) -> Result<(FnArg, &str), ParseError>
     ensures value { (n : ℕ) → length s.now ≤ n → Reads argument_view result (spec.group_at (number_reading numbers) (spec.argument_at (number_reading numbers) n) not s.now) }
     ensures shorter { IfOk result (λ p. length p.1.now < length s.now) }
 {
     if first(s) != b'(' {
-        return Err(Stop::Syntax(s.len()));
+        return Err(ParseError::Syntax(s.len()));
     }
     let (expr, after) = logical(alloc, numbers, skip_blank(skip(s, 1)))?;
     let end = skip_blank(after);
     if first(end) != b')' {
-        return Err(Stop::Syntax(end.len()));
+        return Err(ParseError::Syntax(end.len()));
     }
     let expr = Box::new(alloc, expr)?;
     let atom = FilterAtom::Filter { expr, not };
@@ -34,7 +39,7 @@ fn group(alloc: Global, numbers: Numbers, not: bool, s: &str) -> Result<(FnArg, 
 /// A group or a test, behind `!`.
 #[cycle(reading)]
 #[tactic(auto, unfolding(crate::specs::inner::ReadingGrammar::negated_at))]
-fn negated(alloc: Global, numbers: Numbers, s: &str) -> Result<(FnArg, &str), Stop>
+fn negated(alloc: Global, numbers: NumberMode, s: &str) -> Result<(FnArg, &str), ParseError>
     ensures value { (n : ℕ) → length s.now ≤ n → Reads argument_view result (spec.negated_at (number_reading numbers) (spec.argument_at (number_reading numbers) n) s.now) }
     ensures shorter { IfOk result (λ p. length p.1.now < length s.now) }
 {
@@ -48,7 +53,12 @@ fn negated(alloc: Global, numbers: Numbers, s: &str) -> Result<(FnArg, &str), St
 /// A comparison, from its operator on.
 #[cycle(reading)]
 #[tactic(auto, unfolding(crate::specs::inner::ReadingGrammar::compared_at))]
-fn compared(alloc: Global, numbers: Numbers, left: FnArg, s: &str) -> Result<(FnArg, &str), Stop>
+fn compared(
+    alloc: Global,
+    numbers: NumberMode,
+    left: FnArg,
+    s: &str,
+) -> Result<(FnArg, &str), ParseError>
     ensures value { (n : ℕ) → length s.now ≤ n → Reads argument_view result (spec.compared_at (number_reading numbers) (spec.argument_at (number_reading numbers) n) (argument_view left) s.now) }
     ensures shorter { IfOk result (λ p. length p.1.now < length s.now) }
 {
@@ -63,7 +73,7 @@ fn compared(alloc: Global, numbers: Numbers, left: FnArg, s: &str) -> Result<(Fn
 /// An operand alone, or a comparison.
 #[cycle(reading)]
 #[tactic(auto, unfolding(crate::specs::inner::ReadingGrammar::plain_at))]
-fn plain(alloc: Global, numbers: Numbers, s: &str) -> Result<(FnArg, &str), Stop>
+fn plain(alloc: Global, numbers: NumberMode, s: &str) -> Result<(FnArg, &str), ParseError>
     ensures value { (n : ℕ) → length s.now ≤ n → Reads argument_view result (spec.plain_at (number_reading numbers) (spec.argument_at (number_reading numbers) n) s.now) }
     ensures shorter { IfOk result (λ p. length p.1.now < length s.now) }
 {
@@ -78,7 +88,7 @@ fn plain(alloc: Global, numbers: Numbers, s: &str) -> Result<(FnArg, &str), Stop
 /// An operand of `&&`, or a literal.
 #[cycle(reading)]
 #[tactic(auto, unfolding(crate::specs::inner::ReadingGrammar::basic_at))]
-pub fn basic(alloc: Global, numbers: Numbers, s: &str) -> Result<(FnArg, &str), Stop>
+pub fn basic(alloc: Global, numbers: NumberMode, s: &str) -> Result<(FnArg, &str), ParseError>
     ensures value { (n : ℕ) → length s.now ≤ n → Reads argument_view result (spec.basic_at (number_reading numbers) (spec.argument_at (number_reading numbers) n) s.now) }
     ensures shorter { IfOk result (λ p. length p.1.now < length s.now) }
 {
@@ -94,10 +104,10 @@ pub fn basic(alloc: Global, numbers: Numbers, s: &str) -> Result<(FnArg, &str), 
 #[tactic(auto, unfolding(crate::specs::inner::ReadingLists::many_at))]
 fn ands(
     alloc: Global,
-    numbers: Numbers,
+    numbers: NumberMode,
     first_part: Filter,
     s: &str,
-) -> Result<(Vec<Filter>, &str), Stop>
+) -> Result<(Vec<Filter>, &str), ParseError>
     ensures value { (n k : ℕ) → length s.now ≤ n → length s.now < k → Reads filters_view result (found_then filter_then (filter_view first_part ∷ []) (spec.ands_at (number_reading numbers) (spec.argument_at (number_reading numbers) n) k s.now)) }
     ensures within { IfOk result (λ p. length p.1.now ≤ length s.now) }
 {
@@ -118,7 +128,7 @@ fn ands(
 /// An operand of `||`, or a literal.
 #[cycle(reading)]
 #[tactic(auto, unfolding(crate::specs::inner::ReadingGrammar::conjunction_at))]
-pub fn conjunction(alloc: Global, numbers: Numbers, s: &str) -> Result<(FnArg, &str), Stop>
+pub fn conjunction(alloc: Global, numbers: NumberMode, s: &str) -> Result<(FnArg, &str), ParseError>
     ensures value { (n : ℕ) → length s.now ≤ n → Reads argument_view result (spec.conjunction_at (number_reading numbers) (spec.argument_at (number_reading numbers) n) s.now) }
     ensures shorter { IfOk result (λ p. length p.1.now < length s.now) }
 {
@@ -135,10 +145,10 @@ pub fn conjunction(alloc: Global, numbers: Numbers, s: &str) -> Result<(FnArg, &
 #[tactic(auto, unfolding(crate::specs::inner::ReadingLists::many_at))]
 fn ors(
     alloc: Global,
-    numbers: Numbers,
+    numbers: NumberMode,
     first_part: Filter,
     s: &str,
-) -> Result<(Vec<Filter>, &str), Stop>
+) -> Result<(Vec<Filter>, &str), ParseError>
     ensures value { (n k : ℕ) → length s.now ≤ n → length s.now < k → Reads filters_view result (found_then filter_then (filter_view first_part ∷ []) (spec.ors_at (number_reading numbers) (spec.argument_at (number_reading numbers) n) k s.now)) }
     ensures within { IfOk result (λ p. length p.1.now ≤ length s.now) }
 {
@@ -159,7 +169,7 @@ fn ors(
 /// An argument of a call: a literal, a query or a call alone, or a logical expression.
 #[cycle(reading)]
 #[tactic(auto, unfolding(crate::specs::inner::ReadingGrammar::disjunction_at))]
-pub fn argument(alloc: Global, numbers: Numbers, s: &str) -> Result<(FnArg, &str), Stop>
+pub fn argument(alloc: Global, numbers: NumberMode, s: &str) -> Result<(FnArg, &str), ParseError>
     ensures value { (n : ℕ) → length s.now ≤ n → Reads argument_view result (spec.disjunction_at (number_reading numbers) (spec.argument_at (number_reading numbers) n) s.now) }
     ensures shorter { IfOk result (λ p. length p.1.now < length s.now) }
 {
@@ -174,7 +184,7 @@ pub fn argument(alloc: Global, numbers: Numbers, s: &str) -> Result<(FnArg, &str
 /// A logical expression (2.3.5.1).
 #[cycle(reading)]
 #[tactic(auto, unfolding(crate::specs::inner::ReadingGrammar::logical_at, crate::specs::inner::ReadingGrammar::argument_at))]
-pub fn logical(alloc: Global, numbers: Numbers, s: &str) -> Result<(Filter, &str), Stop>
+pub fn logical(alloc: Global, numbers: NumberMode, s: &str) -> Result<(Filter, &str), ParseError>
     ensures value { (n : ℕ) → length s.now < n → Reads filter_view result (spec.logical_at (number_reading numbers) (spec.argument_at (number_reading numbers) n) s.now) }
     ensures shorter { IfOk result (λ p. length p.1.now < length s.now) }
 {

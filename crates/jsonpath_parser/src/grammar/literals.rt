@@ -3,11 +3,11 @@ ghost use Rattle.std.specs.Prelude.{◌<◌, ◌≢◌, length, IfOk, Some, IfEr
 ghost use Rattle.jsonpath_parser.specs.Prelude.{number_reading, Reads};
 
 use crate::words::number::number;
-use crate::words::stop::Stop;
+use crate::words::parse_error::ParseError;
 
 /// How number literals are read.
 #[derive(Clone, Copy, Debug)]
-pub enum Numbers {
+pub enum NumberMode {
     /// Each as its value; one without a value is refused.
     Valued,
     /// Each as its value, and one without a value as 0.
@@ -16,15 +16,15 @@ pub enum Numbers {
 
 /// A number literal.
 #[tactic(auto, unfolding(crate::specs::inner::ReadingGrammar::number_reading))]
-pub fn number_literal(numbers: Numbers, s: &str) -> Result<(i64, &str), Stop>
+pub fn number_literal(numbers: NumberMode, s: &str) -> Result<(i64, &str), ParseError>
     ensures value { Reads (λ n. Some n) result (number_reading numbers s.now) }
     ensures shorter { IfOk result (λ p. length p.1.now < length s.now) }
-    ensures no_memory { IfErr result (λ e. e ≢ Stop.Memory) }
+    ensures no_memory { IfErr result (λ e. e ≢ ParseError.Memory) }
 {
     let (value, rest) = number(s)?;
     match (value, numbers) {
         (Some(value), _) => Ok((value, rest)),
-        (None, Numbers::Any) => Ok((0, rest)),
-        (None, Numbers::Valued) => Err(Stop::Syntax(s.len())),
+        (None, NumberMode::Any) => Ok((0, rest)),
+        (None, NumberMode::Valued) => Err(ParseError::Syntax(s.len())),
     }
 }

@@ -4,7 +4,7 @@ ghost use Rattle.jsonpath_parser.specs.Prelude.{argument_view, comparable_view, 
 ghost use Rattle.jsonpath_parser.specs.inner.ReadingGrammar as spec;
 
 use super::calls::called;
-use super::literals::{Numbers, number_literal};
+use super::literals::{NumberMode, number_literal};
 use super::segments::segments;
 use super::slices::is_int_first;
 use super::words::{word, word_literal};
@@ -12,7 +12,7 @@ use crate::tree::model::{
     Comparable, Filter, FilterAtom, FnArg, JpQuery, Literal, Segment, Selector, SingularQuery,
     SingularQuerySegment, Test,
 };
-use crate::words::stop::Stop;
+use crate::words::parse_error::ParseError;
 use crate::words::string::string;
 use crate::words::text::{first, skip};
 use std::alloc::Global;
@@ -20,7 +20,7 @@ use std::alloc::Global;
 /// A call, or a literal that is a word.
 #[cycle(reading)]
 #[tactic(auto, unfolding(crate::specs::inner::ReadingGrammar::word_operand_at))]
-fn word_operand(alloc: Global, numbers: Numbers, s: &str) -> Result<(FnArg, &str), Stop>
+fn word_operand(alloc: Global, numbers: NumberMode, s: &str) -> Result<(FnArg, &str), ParseError>
     ensures value { (n : ℕ) → length s.now ≤ n → Reads argument_view result (spec.word_operand_at (number_reading numbers) (spec.argument_at (number_reading numbers) n) s.now) }
     ensures shorter { IfOk result (λ p. length p.1.now < length s.now) }
 {
@@ -32,14 +32,14 @@ fn word_operand(alloc: Global, numbers: Numbers, s: &str) -> Result<(FnArg, &str
     }
     match word_literal(word) {
         Some(literal) => Ok((FnArg::Literal(literal), after)),
-        None => Err(Stop::Syntax(s.len())),
+        None => Err(ParseError::Syntax(s.len())),
     }
 }
 
 /// A literal, a query or a call.
 #[cycle(reading)]
 #[tactic(auto, unfolding(crate::specs::inner::ReadingGrammar::operand_at))]
-pub fn operand(alloc: Global, numbers: Numbers, s: &str) -> Result<(FnArg, &str), Stop>
+pub fn operand(alloc: Global, numbers: NumberMode, s: &str) -> Result<(FnArg, &str), ParseError>
     ensures value { (n : ℕ) → length s.now ≤ n → Reads argument_view result (spec.operand_at (number_reading numbers) (spec.argument_at (number_reading numbers) n) s.now) }
     ensures shorter { IfOk result (λ p. length p.1.now < length s.now) }
 {
@@ -77,12 +77,12 @@ fn step(segment: Segment) -> Option<SingularQuerySegment>
     }
 }
 
-/// The segments as steps, where each is one name or one index; `left` bytes follow them.
+/// The segments as steps, where each is one name or one index; `remaining` bytes follow them.
 pub fn steps(
     alloc: Global,
     mut segments: Vec<Segment>,
-    left: usize,
-) -> Result<Vec<SingularQuerySegment>, Stop>
+    remaining: usize,
+) -> Result<Vec<SingularQuerySegment>, ParseError>
     ensures { Gives steps_view result (spec.steps_in (segments_view segments)) }
 {
     let mut found = Vec::with_capacity(alloc, segments.len())?;
@@ -90,52 +90,52 @@ pub fn steps(
     'steps: while let Some(segment) = segments.pop() {
         match step(segment) {
             Some(step) => found.push(step)?,
-            None => return Err(Stop::Syntax(left)),
+            None => return Err(ParseError::Syntax(remaining)),
         }
     }
     Ok(found)
 }
 
-/// The operand as a side of a comparison; `left` bytes follow it.
-pub fn comparable(alloc: Global, operand: FnArg, left: usize) -> Result<Comparable, Stop>
+/// The operand as a side of a comparison; `remaining` bytes follow it.
+pub fn comparable(alloc: Global, operand: FnArg, remaining: usize) -> Result<Comparable, ParseError>
     ensures { Gives comparable_view result (spec.comparable_of (argument_view operand)) }
 {
     match operand {
         FnArg::Literal(literal) => Ok(Comparable::Literal(literal)),
         FnArg::Test(test) => match Box::into_inner(test) {
             Test::RelQuery(segments) => {
-                let steps = steps(alloc, segments, left)?;
+                let steps = steps(alloc, segments, remaining)?;
                 Ok(Comparable::SingularQuery(SingularQuery::Current(steps)))
             }
             Test::AbsQuery(query) => {
-                let steps = steps(alloc, query.segments, left)?;
+                let steps = steps(alloc, query.segments, remaining)?;
                 Ok(Comparable::SingularQuery(SingularQuery::Root(steps)))
             }
             Test::Function(call) => Ok(Comparable::Function(Box::into_inner(call))),
         },
-        FnArg::Filter(_) => Err(Stop::Syntax(left)),
+        FnArg::Filter(_) => Err(ParseError::Syntax(remaining)),
     }
 }
 
-/// The argument as a logical expression; `left` bytes follow it.
-pub fn filter(argument: FnArg, left: usize) -> Result<Filter, Stop>
+/// The argument as a logical expression; `remaining` bytes follow it.
+pub fn filter(argument: FnArg, remaining: usize) -> Result<Filter, ParseError>
     ensures value { Gives filter_view result (spec.filter_of (argument_view argument)) }
-    ensures no_memory { IfErr result (λ e. e ≢ Stop.Memory) }
+    ensures no_memory { IfErr result (λ e. e ≢ ParseError.Memory) }
 {
     match argument {
-        FnArg::Literal(_) => Err(Stop::Syntax(left)),
+        FnArg::Literal(_) => Err(ParseError::Syntax(remaining)),
         FnArg::Test(expr) => Ok(Filter::Atom(FilterAtom::Test { expr, not: false })),
         FnArg::Filter(filter) => Ok(filter),
     }
 }
 
-/// The test behind `!`; `left` bytes follow it.
-pub fn negated_test(operand: FnArg, left: usize) -> Result<FnArg, Stop>
+/// The test behind `!`; `remaining` bytes follow it.
+pub fn negated_test(operand: FnArg, remaining: usize) -> Result<FnArg, ParseError>
     ensures value { Gives argument_view result (spec.negated_of (argument_view operand)) }
-    ensures no_memory { IfErr result (λ e. e ≢ Stop.Memory) }
+    ensures no_memory { IfErr result (λ e. e ≢ ParseError.Memory) }
 {
     match operand {
         FnArg::Test(expr) => Ok(FnArg::Filter(Filter::Atom(FilterAtom::Test { expr, not: true }))),
-        FnArg::Literal(_) | FnArg::Filter(_) => Err(Stop::Syntax(left)),
+        FnArg::Literal(_) | FnArg::Filter(_) => Err(ParseError::Syntax(remaining)),
     }
 }

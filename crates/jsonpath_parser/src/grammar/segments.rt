@@ -3,18 +3,18 @@ ghost use Rattle.std.specs.Prelude.{◌≡◌, ℕ, ◌<◌, ◌≤◌, length, 
 ghost use Rattle.jsonpath_parser.specs.Prelude.{number_reading, Reads, segment_view, segments_view};
 ghost use Rattle.jsonpath_parser.specs.inner.ReadingGrammar as spec;
 
-use super::literals::Numbers;
+use super::literals::NumberMode;
 use super::selectors::selection;
 use super::words::shorthand;
 use crate::tree::model::Segment;
-use crate::words::stop::Stop;
+use crate::words::parse_error::ParseError;
 use crate::words::text::{byte_at, first, skip, skip_blank};
 use std::alloc::Global;
 
 /// What stands behind `..` (2.5.2.1).
 #[cycle(reading)]
 #[tactic(auto, unfolding(crate::specs::inner::ReadingGrammar::descendant_at))]
-fn descendant(alloc: Global, numbers: Numbers, s: &str) -> Result<(Segment, &str), Stop>
+fn descendant(alloc: Global, numbers: NumberMode, s: &str) -> Result<(Segment, &str), ParseError>
     ensures value { (n : ℕ) → length s.now ≤ n → Reads segment_view result (spec.descendant_at (number_reading numbers) (spec.argument_at (number_reading numbers) n) s.now) }
     ensures within { IfOk result (λ p. length p.1.now ≤ length s.now) }
 {
@@ -30,7 +30,7 @@ fn descendant(alloc: Global, numbers: Numbers, s: &str) -> Result<(Segment, &str
 /// A segment (2.5).
 #[cycle(reading)]
 #[tactic(auto, unfolding(crate::specs::inner::ReadingGrammar::segment_at))]
-pub fn segment(alloc: Global, numbers: Numbers, s: &str) -> Result<(Segment, &str), Stop>
+pub fn segment(alloc: Global, numbers: NumberMode, s: &str) -> Result<(Segment, &str), ParseError>
     ensures value { (n : ℕ) → length s.now ≤ n → Reads segment_view result (spec.segment_at (number_reading numbers) (spec.argument_at (number_reading numbers) n) s.now) }
     ensures shorter { IfOk result (λ p. length p.1.now < length s.now) }
 {
@@ -53,7 +53,11 @@ fn starts_segment(s: &str) -> bool
 /// Segments, each perhaps after blanks. Blanks that no segment follows are not read.
 #[cycle(reading)]
 #[tactic(auto, unfolding(crate::specs::inner::ReadingGrammar::all_segments_at, crate::specs::inner::ReadingLists::many_at))]
-pub fn segments(alloc: Global, numbers: Numbers, s: &str) -> Result<(Vec<Segment>, &str), Stop>
+pub fn segments(
+    alloc: Global,
+    numbers: NumberMode,
+    s: &str,
+) -> Result<(Vec<Segment>, &str), ParseError>
     ensures value { (n : ℕ) → length s.now ≤ n → Reads segments_view result (spec.all_segments_at (number_reading numbers) (spec.argument_at (number_reading numbers) n) s.now) }
     ensures within { IfOk result (λ p. length p.1.now ≤ length s.now) }
 {

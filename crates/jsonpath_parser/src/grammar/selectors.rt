@@ -4,10 +4,10 @@ ghost use Rattle.jsonpath_parser.specs.Prelude.{number_reading, Reads, segment_v
 ghost use Rattle.jsonpath_parser.specs.inner.ReadingGrammar as spec;
 
 use super::filters::logical;
-use super::literals::Numbers;
+use super::literals::NumberMode;
 use super::slices::numbered;
 use crate::tree::model::{Segment, Selector};
-use crate::words::stop::Stop;
+use crate::words::parse_error::ParseError;
 use crate::words::string::string;
 use crate::words::text::{first, skip, skip_blank};
 use std::alloc::Global;
@@ -15,7 +15,7 @@ use std::alloc::Global;
 /// A selector (2.3).
 #[cycle(reading)]
 #[tactic(auto, unfolding(crate::specs::inner::ReadingGrammar::selector_at))]
-pub fn selector(alloc: Global, numbers: Numbers, s: &str) -> Result<(Selector, &str), Stop>
+pub fn selector(alloc: Global, numbers: NumberMode, s: &str) -> Result<(Selector, &str), ParseError>
     ensures value { (n : ℕ) → length s.now ≤ n → Reads selector_view result (spec.selector_at (number_reading numbers) (spec.argument_at (number_reading numbers) n) s.now) }
     ensures shorter { IfOk result (λ p. length p.1.now < length s.now) }
 {
@@ -36,7 +36,11 @@ pub fn selector(alloc: Global, numbers: Numbers, s: &str) -> Result<(Selector, &
 /// Selectors with commas between them.
 #[cycle(reading)]
 #[tactic(auto, unfolding(crate::specs::inner::ReadingLists::separated_at))]
-fn selectors(alloc: Global, numbers: Numbers, s: &str) -> Result<(Vec<Selector>, &str), Stop>
+fn selectors(
+    alloc: Global,
+    numbers: NumberMode,
+    s: &str,
+) -> Result<(Vec<Selector>, &str), ParseError>
     ensures value { (n k : ℕ) → length s.now ≤ n → length s.now < k → Reads selectors_view result (spec.selectors_at (number_reading numbers) (spec.argument_at (number_reading numbers) n) k s.now) }
     ensures shorter { IfOk result (λ p. length p.1.now < length s.now) }
 {
@@ -70,17 +74,17 @@ fn selection_of(mut selectors: Vec<Selector>) -> Segment
 /// Selectors between brackets (2.5.1).
 #[cycle(reading)]
 #[tactic(auto, unfolding(crate::specs::inner::ReadingGrammar::selection_at))]
-pub fn selection(alloc: Global, numbers: Numbers, s: &str) -> Result<(Segment, &str), Stop>
+pub fn selection(alloc: Global, numbers: NumberMode, s: &str) -> Result<(Segment, &str), ParseError>
     ensures value { (n : ℕ) → length s.now ≤ n → Reads segment_view result (spec.selection_at (number_reading numbers) (spec.argument_at (number_reading numbers) n) s.now) }
     ensures shorter { IfOk result (λ p. length p.1.now < length s.now) }
 {
     if first(s) != b'[' {
-        return Err(Stop::Syntax(s.len()));
+        return Err(ParseError::Syntax(s.len()));
     }
     let (selectors, after) = selectors(alloc, numbers, skip_blank(skip(s, 1)))?;
     let end = skip_blank(after);
     if first(end) != b']' {
-        return Err(Stop::Syntax(end.len()));
+        return Err(ParseError::Syntax(end.len()));
     }
     Ok((selection_of(selectors), skip(end, 1)))
 }

@@ -5,7 +5,7 @@ ghost use Rattle.jsonpath_parser.specs.inner.ReadingGrammar as spec;
 
 use crate::tree::model::Selector;
 use crate::words::int::int;
-use crate::words::stop::Stop;
+use crate::words::parse_error::ParseError;
 use crate::words::text::{first, skip, skip_blank};
 
 /// Whether an int, or a number literal, begins with this byte.
@@ -18,10 +18,10 @@ pub fn is_int_first(byte: u8) -> bool
 
 /// The end of a slice and the blanks behind it, where it stands.
 #[tactic(auto, unfolding(crate::specs::inner::ReadingGrammar::end_at))]
-fn end(s: &str) -> Result<(Option<i64>, &str), Stop>
+fn end(s: &str) -> Result<(Option<i64>, &str), ParseError>
     ensures value { Reads (λ n. n) result (spec.end_at s.now) }
     ensures within { IfOk result (λ p. length p.1.now ≤ length s.now) }
-    ensures no_memory { IfErr result (λ e. e ≢ Stop.Memory) }
+    ensures no_memory { IfErr result (λ e. e ≢ ParseError.Memory) }
 {
     if !is_int_first(first(s)) {
         return Ok((None, s));
@@ -32,10 +32,10 @@ fn end(s: &str) -> Result<(Option<i64>, &str), Stop>
 
 /// The step of a slice, behind its `:`. Blanks that no int follows are not read.
 #[tactic(auto, unfolding(crate::specs::inner::ReadingGrammar::step_at))]
-fn step(s: &str) -> Result<(Option<i64>, &str), Stop>
+fn step(s: &str) -> Result<(Option<i64>, &str), ParseError>
     ensures value { Reads (λ n. n) result (spec.step_at s.now) }
     ensures within { IfOk result (λ p. length p.1.now ≤ length s.now) }
-    ensures no_memory { IfErr result (λ e. e ≢ Stop.Memory) }
+    ensures no_memory { IfErr result (λ e. e ≢ ParseError.Memory) }
 {
     let start = skip_blank(s);
     if !is_int_first(first(start)) {
@@ -47,10 +47,10 @@ fn step(s: &str) -> Result<(Option<i64>, &str), Stop>
 
 /// The end and the step of a slice, behind its first `:`.
 #[tactic(auto, unfolding(crate::specs::inner::ReadingGrammar::slice_at))]
-fn slice(start: Option<i64>, s: &str) -> Result<(Selector, &str), Stop>
+fn slice(start: Option<i64>, s: &str) -> Result<(Selector, &str), ParseError>
     ensures value { Reads selector_view result (spec.slice_at start s.now) }
     ensures within { IfOk result (λ p. length p.1.now ≤ length s.now) }
-    ensures no_memory { IfErr result (λ e. e ≢ Stop.Memory) }
+    ensures no_memory { IfErr result (λ e. e ≢ ParseError.Memory) }
 {
     let (end, after) = end(skip_blank(s))?;
     if first(after) != b':' {
@@ -62,10 +62,10 @@ fn slice(start: Option<i64>, s: &str) -> Result<(Selector, &str), Stop>
 
 /// An index or a slice.
 #[tactic(auto, unfolding(crate::specs::inner::ReadingGrammar::numbered_at))]
-pub fn numbered(s: &str) -> Result<(Selector, &str), Stop>
+pub fn numbered(s: &str) -> Result<(Selector, &str), ParseError>
     ensures value { Reads selector_view result (spec.numbered_at s.now) }
     ensures shorter { IfOk result (λ p. length p.1.now < length s.now) }
-    ensures no_memory { IfErr result (λ e. e ≢ Stop.Memory) }
+    ensures no_memory { IfErr result (λ e. e ≢ ParseError.Memory) }
 {
     if first(s) == b':' {
         return slice(None, skip(s, 1));

@@ -5,7 +5,7 @@ ghost use Rattle.jsonpath_parser.specs.words.inner.Reading as reading;
 ghost use Rattle.jsonpath_parser.specs.inner.ReadingGrammar as spec;
 
 use crate::tree::model::{Literal, Operator, Selector};
-use crate::words::stop::Stop;
+use crate::words::parse_error::ParseError;
 use crate::words::text::{
     byte_at, first, function_run, is_function_first, is_name_first, name_run, skip,
 };
@@ -13,12 +13,12 @@ use std::alloc::Global;
 
 /// A shorthand name (2.5.1.1).
 #[tactic(auto, unfolding(crate::specs::words::inner::Reading::name_at))]
-fn name(alloc: Global, s: &str) -> Result<(String, &str), Stop>
+fn name(alloc: Global, s: &str) -> Result<(String, &str), ParseError>
     ensures value { Reads string_bytes result (reading.name_at s.now) }
     ensures within { IfOk result (λ p. length p.1.now ≤ length s.now) }
 {
     if !is_name_first(first(s)) {
-        return Err(Stop::Syntax(s.len()));
+        return Err(ParseError::Syntax(s.len()));
     }
     let (name, rest) = name_run(s);
     Ok((String::from_str(alloc, name)?, rest))
@@ -26,7 +26,7 @@ fn name(alloc: Global, s: &str) -> Result<(String, &str), Stop>
 
 /// `*` or a shorthand name, behind a dot (2.5.1.1).
 #[tactic(auto, unfolding(crate::specs::inner::ReadingGrammar::shorthand_at))]
-pub fn shorthand(alloc: Global, s: &str) -> Result<(Selector, &str), Stop>
+pub fn shorthand(alloc: Global, s: &str) -> Result<(Selector, &str), ParseError>
     ensures value { Reads selector_view result (spec.shorthand_at s.now) }
     ensures within { IfOk result (λ p. length p.1.now ≤ length s.now) }
 {
@@ -39,13 +39,13 @@ pub fn shorthand(alloc: Global, s: &str) -> Result<(Selector, &str), Stop>
 
 /// The name of a function, or a word (2.4).
 #[tactic(auto, unfolding(crate::specs::inner::ReadingGrammar::word_at))]
-pub fn word(s: &str) -> Result<(&str, &str), Stop>
+pub fn word(s: &str) -> Result<(&str, &str), ParseError>
     ensures value { Reads (λ w. w.now) result (spec.word_at s.now) }
     ensures shorter { IfOk result (λ p. length p.1.now < length s.now) }
-    ensures no_memory { IfErr result (λ e. e ≢ Stop.Memory) }
+    ensures no_memory { IfErr result (λ e. e ≢ ParseError.Memory) }
 {
     if !is_function_first(first(s)) {
-        return Err(Stop::Syntax(s.len()));
+        return Err(ParseError::Syntax(s.len()));
     }
     Ok(function_run(s))
 }
@@ -72,10 +72,10 @@ pub fn is_operator_first(byte: u8) -> bool
 
 /// An operator of a comparison.
 #[tactic(auto, unfolding(crate::specs::inner::ReadingGrammar::operator_at))]
-pub fn read_operator(s: &str) -> Result<(Operator, &str), Stop>
+pub fn read_operator(s: &str) -> Result<(Operator, &str), ParseError>
     ensures value { Reads operator_view result (spec.operator_at s.now) }
     ensures shorter { IfOk result (λ p. length p.1.now < length s.now) }
-    ensures no_memory { IfErr result (λ e. e ≢ Stop.Memory) }
+    ensures no_memory { IfErr result (λ e. e ≢ ParseError.Memory) }
 {
     match (first(s), byte_at(s, 1)) {
         (b'=', b'=') => Ok((Operator::Equal, skip(s, 2))),
@@ -84,7 +84,7 @@ pub fn read_operator(s: &str) -> Result<(Operator, &str), Stop>
         (b'>', b'=') => Ok((Operator::GreaterOrEqual, skip(s, 2))),
         (b'<', _) => Ok((Operator::Less, skip(s, 1))),
         (b'>', _) => Ok((Operator::Greater, skip(s, 1))),
-        _ => Err(Stop::Syntax(s.len())),
+        _ => Err(ParseError::Syntax(s.len())),
     }
 }
 

@@ -14,7 +14,7 @@ use crate::tree::model::{JpQuery, Segment, call};
 pub fn is_singular(query: &JpQuery) -> bool
     ensures { result ≡ typing.is_singular (query_view query.now) }
 {
-    call::is_singular(&query.segments)
+    call::are_steps(&query.segments)
 }
 
 /// Whether no filter of a query has a `$`: no query from the root, singular or not, in filters at any depth and in the
@@ -42,7 +42,7 @@ fn are_local(segments: &[Segment]) -> bool
 ///
 /// The time is linear in the tree, times the names for each custom call.
 #[tactic(auto, using(crate::proofs::laws::tree::Asking::known_segments))]
-pub fn calls_only<'t>(query: &'t JpQuery, names: &[&str]) -> Option<&'t str>
+pub fn first_unknown_function<'t>(query: &'t JpQuery, names: &[&str]) -> Option<&'t str>
     ensures { option_map (λ s. s.now) result ≡ reach.first_other (reach.is_one_of names.now) (query_view query.now) }
 {
     Question::Known(names).segments(&query.segments)

@@ -3,4 +3,4 @@ use crate::tree::model::JpQuery;
 
 /// Gives back the memory of the query's whole tree. A caller in another crate that hands its tree back here need not
 /// drop it itself.
-pub fn let_go(_query: JpQuery) {}
+pub fn drop_query(_query: JpQuery) {}

@@ -3,7 +3,7 @@ ghost use Rattle.std.specs.Prelude.{◌≡◌, ◌≢◌, ℕ, ◌+◌, ◌*◌,
 ghost use Rattle.jsonpath_parser.specs.Prelude.{digits_value, digits_value_after, down, exponent_view, is_ascii_digit, IsRun, IsTrimmed, IsUnheld, number_of, option_map, Reads, up};
 ghost use Rattle.jsonpath_parser.specs.words.inner.ReadingNumbers as spec;
 
-use crate::words::stop::Stop;
+use crate::words::parse_error::ParseError;
 use crate::words::text::{digit_run, first, skip};
 
 /// An exponent as it is written: its digits, none where there is no exponent, and whether `-` stands before them.
@@ -26,20 +26,20 @@ struct Mantissa {
 ///
 /// # Errors
 ///
-/// `Stop::Syntax` where no number literal stands at the front.
+/// `ParseError::Syntax` where no number literal stands at the front.
 #[tactic(auto, unfolding(crate::specs::words::inner::ReadingNumbers::number_at))]
-pub fn number(s: &str) -> Result<(Option<i64>, &str), Stop>
+pub fn number(s: &str) -> Result<(Option<i64>, &str), ParseError>
     ensures value { Reads (λ v. v) result (spec.number_at s.now) }
     ensures shorter { IfOk result (λ p. length p.1.now < length s.now) }
-    ensures no_memory { IfErr result (λ e. e ≢ Stop.Memory) }
+    ensures no_memory { IfErr result (λ e. e ≢ ParseError.Memory) }
 {
     let (minus, start) = sign(s);
-    let Some((whole, behind)) = whole_part(start) else {
-        return Err(Stop::Syntax(start.len()));
+    let Some((integer, behind)) = integer_part(start) else {
+        return Err(ParseError::Syntax(start.len()));
     };
     let (fraction, behind) = fraction_part(behind);
     let (exponent, rest) = exponent_part(behind);
-    Ok((value(minus, whole, fraction, exponent), rest))
+    Ok((value(minus, integer, fraction, exponent), rest))
 }
 
 /// Whether `-` stands at the front, and what follows it.
@@ -83,7 +83,7 @@ fn digits(s: &str) -> Option<(&str, &str)>
 
 /// `0`, or digits that do not begin with 0, and what follows them.
 #[tactic(auto, unfolding(crate::specs::words::inner::ReadingNumbers::whole_part_at))]
-fn whole_part(s: &str) -> Option<(&str, &str)>
+fn integer_part(s: &str) -> Option<(&str, &str)>
     ensures value { option_map (λ p. (p.0.now, p.1.now)) result ≡ spec.whole_part_at s.now }
     ensures run { IfSome result (λ p. IsRun is_ascii_digit p.0.now) }
     ensures parts { IfSome result (λ p. length p.0.now + length p.1.now ≡ length s.now) }
@@ -149,18 +149,18 @@ fn exponent_part(s: &str) -> (Exponent<'_>, &str)
 }
 
 /// The value of a literal's parts.
-fn value(minus: bool, whole: &str, fraction: &str, exponent: Exponent<'_>) -> Option<i64>
-    requires whole_run { IsRun is_ascii_digit whole.now }
+fn value(minus: bool, integer: &str, fraction: &str, exponent: Exponent<'_>) -> Option<i64>
+    requires integer_run { IsRun is_ascii_digit integer.now }
     requires fraction_run { IsRun is_ascii_digit fraction.now }
     requires exponent_run { IsRun is_ascii_digit exponent.digits.now }
-    requires room { length whole.now + length fraction.now < 2 ^ 63 }
-    ensures { result ≡ spec.scaled_value minus (digits_value 10 (whole.now ++ fraction.now)) (length fraction.now) (exponent_view exponent.entry) }
+    requires room { length integer.now + length fraction.now < 2 ^ 63 }
+    ensures { result ≡ spec.scaled_value minus (digits_value 10 (integer.now ++ fraction.now)) (length fraction.now) (exponent_view exponent.entry) }
 {
     let start = Mantissa {
         digits: 0,
         zeros: 0,
     };
-    let mantissa = with_digits(with_digits(start, whole)?, fraction)?;
+    let mantissa = with_digits(with_digits(start, integer)?, fraction)?;
     let size = scaled(mantissa, fraction.len() as u64, exponent)?;
     long(minus, size)
 }

@@ -5,27 +5,27 @@ ghost use Rattle.jsonpath_parser.specs.Prelude.{digit_value, is_quote, prefix_le
 ghost use Rattle.jsonpath_parser.specs.words.inner.ReadingStrings as spec;
 ghost use Rattle.jsonpath_parser.specs.words.Strings as strings;
 
-use crate::words::stop::Stop;
+use crate::words::parse_error::ParseError;
 use crate::words::text::{byte_at, first, skip};
 use std::alloc::Global;
 
 /// The value of the string at the front, without its quotes and with its escapes read, and the text after it (2.3.1).
-/// It takes time in the length of the string. Where no string stands at the front it returns `Stop::Syntax`, where a
-/// growth is refused `Stop::Memory`.
+/// It takes time in the length of the string. Where no string stands at the front it returns `ParseError::Syntax`, where a
+/// growth is refused `ParseError::Memory`.
 #[tactic(auto, unfolding(crate::specs::words::inner::ReadingStrings::string_at))]
-pub fn string(alloc: Global, s: &str) -> Result<(String, &str), Stop>
+pub fn string(alloc: Global, s: &str) -> Result<(String, &str), ParseError>
     ensures value { Reads string_bytes result (spec.string_at s.now) }
     ensures shorter { IfOk result (λ p. length p.1.now < length s.now) }
 {
     let quote = first(s);
     if quote != b'"' && quote != b'\'' {
-        return Err(Stop::Syntax(s.len()));
+        return Err(ParseError::Syntax(s.len()));
     }
     chars(alloc, quote, skip(s, 1))
 }
 
 /// The characters up to the quote, and the text after it.
-fn chars(alloc: Global, quote: u8, s: &str) -> Result<(String, &str), Stop>
+fn chars(alloc: Global, quote: u8, s: &str) -> Result<(String, &str), ParseError>
     requires { is_quote quote ≡ true }
     ensures value { Reads string_bytes result (spec.chars_at quote (suc (length s.now)) [] s.now) }
     ensures shorter { IfOk result (λ p. length p.1.now < length s.now) }
@@ -39,7 +39,7 @@ fn chars(alloc: Global, quote: u8, s: &str) -> Result<(String, &str), Stop>
             return Ok((value, skip(after, 1)));
         }
         if first(after) != b'\\' {
-            return Err(Stop::Syntax(after.len()));
+            return Err(ParseError::Syntax(after.len()));
         }
         let (c, next) = escape(quote, skip(after, 1))?;
         value.push(c)?;
@@ -74,17 +74,17 @@ fn plain_run(quote: u8, s: &str) -> (&str, &str)
 
 /// What stands behind a backslash: its character, and the text after it (2.3.1).
 #[tactic(auto, unfolding(crate::specs::words::inner::ReadingStrings::escape_at))]
-fn escape(quote: u8, s: &str) -> Result<(char, &str), Stop>
+fn escape(quote: u8, s: &str) -> Result<(char, &str), ParseError>
     requires { is_quote quote ≡ true }
     ensures value { Reads (λ c. c) result (spec.escape_at quote s.now) }
     ensures shorter { IfOk result (λ p. length p.1.now < length s.now) }
-    ensures no_memory { IfErr result (λ e. e ≢ Stop.Memory) }
+    ensures no_memory { IfErr result (λ e. e ≢ ParseError.Memory) }
 {
     if first(s) == b'u' {
         return unicode(skip(s, 1));
     }
     let Some(c) = escaped(quote, first(s)) else {
-        return Err(Stop::Syntax(s.len()));
+        return Err(ParseError::Syntax(s.len()));
     };
     Ok((char::from(c), skip(s, 1)))
 }
@@ -109,44 +109,44 @@ fn escaped(quote: u8, byte: u8) -> Option<u8>
 
 /// What stands behind `\u`: a code that is no surrogate, or a high surrogate with a low one after it.
 #[tactic(auto, unfolding(crate::specs::words::inner::ReadingStrings::unicode_at))]
-fn unicode(s: &str) -> Result<(char, &str), Stop>
+fn unicode(s: &str) -> Result<(char, &str), ParseError>
     ensures value { Reads (λ c. c) result (spec.unicode_at s.now) }
     ensures shorter { IfOk result (λ p. length p.1.now < length s.now) }
-    ensures no_memory { IfErr result (λ e. e ≢ Stop.Memory) }
+    ensures no_memory { IfErr result (λ e. e ≢ ParseError.Memory) }
 {
     let Some(code) = code(s) else {
-        return Err(Stop::Syntax(s.len()));
+        return Err(ParseError::Syntax(s.len()));
     };
     let after = skip(s, 4);
     if is_high_surrogate(code) {
         return low(code, after);
     }
     let Some(c) = char::from_u32(code) else {
-        return Err(Stop::Syntax(s.len()));
+        return Err(ParseError::Syntax(s.len()));
     };
     Ok((c, after))
 }
 
 /// The low surrogate that follows a high one, and the character of both.
 #[tactic(auto, unfolding(crate::specs::words::inner::ReadingStrings::low_at))]
-fn low(high: u32, s: &str) -> Result<(char, &str), Stop>
+fn low(high: u32, s: &str) -> Result<(char, &str), ParseError>
     requires { strings.is_high_surrogate high ≡ true }
     ensures value { Reads (λ c. c) result (spec.low_at high s.now) }
     ensures shorter { IfOk result (λ p. length p.1.now < length s.now) }
-    ensures no_memory { IfErr result (λ e. e ≢ Stop.Memory) }
+    ensures no_memory { IfErr result (λ e. e ≢ ParseError.Memory) }
 {
     if first(s) != b'\\' || byte_at(s, 1) != b'u' {
-        return Err(Stop::Syntax(s.len()));
+        return Err(ParseError::Syntax(s.len()));
     }
     let digits = skip(s, 2);
     let Some(low) = code(digits) else {
-        return Err(Stop::Syntax(digits.len()));
+        return Err(ParseError::Syntax(digits.len()));
     };
     if !is_low_surrogate(low) {
-        return Err(Stop::Syntax(digits.len()));
+        return Err(ParseError::Syntax(digits.len()));
     }
     let Some(c) = char::from_u32(0x10000 + (high - 0xD800) * 0x400 + (low - 0xDC00)) else {
-        return Err(Stop::Syntax(digits.len()));
+        return Err(ParseError::Syntax(digits.len()));
     };
     Ok((c, skip(digits, 4)))
 }

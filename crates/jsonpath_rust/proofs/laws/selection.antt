@@ -28,8 +28,8 @@ pub use Rattle.jsonpath_rust.proofs.laws.selection.DirectLaws.{at_hand_as, child
 pub use Rattle.jsonpath_rust.proofs.laws.selection.HaltingLaws.{asked_as, asked_at, asked_at_or, asked_left, asked_none, asked_rest, asked_right, pattern_asked, stop_is_memory}
 pub use Rattle.jsonpath_rust.proofs.laws.selection.Kept.{given_right, keeps_none, keeps_set, of_some, slot_set, wanted_given}
 pub use Rattle.jsonpath_rust.proofs.laws.selection.Leading.{leads_below, leads_indexed}
-pub use Rattle.jsonpath_rust.proofs.laws.selection.NodelistLaws.{nodelist-through, through-applied}
-pub use Rattle.jsonpath_rust.proofs.laws.selection.PlanEquations.{call_view-Count, call_view-Length, call_view-Match, call_view-Search, call_view-Value, called, filter_view-Comparison, filter_view-Constant, filter_view-Test, part_view-Call, part_view-Children, part_view-Constant, part_view-Filter, part_view-Literal, part_view-Lookup, part_view-Pattern, part_view-Walk, segment_view-Descendant, segment_view-Selector, selector_view-Filter, selector_view-Index, selector_view-Name, selector_view-Wildcard}
+pub use Rattle.jsonpath_rust.proofs.laws.selection.NodelistLaws.{nodelist-selected_from, selected_from-applied}
+pub use Rattle.jsonpath_rust.proofs.laws.selection.PlanEquations.{call_view-Count, call_view-Length, call_view-Match, call_view-Search, call_view-Value, called, filter_view-Comparison, filter_view-Constant, filter_view-Test, expr_view-Call, expr_view-Children, expr_view-Constant, expr_view-Filter, expr_view-Literal, expr_view-Lookup, expr_view-Pattern, expr_view-Walk, segment_view-Descendant, segment_view-Selector, selector_view-Filter, selector_view-Index, selector_view-Name, selector_view-Wildcard}
 pub use Rattle.jsonpath_rust.proofs.laws.selection.PlanLaws.{arguments_rooted, filters_rooted, made_around, made_as, made_both, made_end, made_ended, made_here, made_next, made_none, made_start, numbered_kept, plan_made, plan_rooted, plan_settled, argument_in-nodes, same_maker}
 pub use Rattle.jsonpath_rust.proofs.laws.selection.RootedLaws.{asked_held, fit_patterns, kept_told, kept_trees, told_nodes, told_one, told_truth, truth_held}
 pub use Rattle.jsonpath_rust.proofs.laws.selection.Sinks.{finished_all, given_few, given_locations, given_nodes, given_paths, given_values, removal_is, removal_there, result_as}

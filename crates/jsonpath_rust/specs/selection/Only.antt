@@ -10,8 +10,8 @@ use Rattle.jsonpath_base.specs.documents.Meaning.{selected}
 use Rattle.jsonpath_rust.specs.selection.Prepared.{IsFirstNode}
 use Rattle.jsonpath_base.specs.declared.documents.node.QueryRef.{QueryRef}
 use Rattle.jsonpath_base.specs.declared.documents.queryable.Queryable.{Ghosts}
-use Rattle.jsonpath_rust.specs.declared.selection.only.Only.{Only}
-use Rattle.jsonpath_rust.specs.declared.selection.only.Only.TheVariants.{Nothing, One, Several}
+use Rattle.jsonpath_rust.specs.declared.selection.sink.Only.{Only}
+use Rattle.jsonpath_rust.specs.declared.selection.sink.Only.TheVariants.{Nothing, One, Several}
 
 -- What is told of the only node: the query selects nothing; or one location alone, whose node this is; or several. A location that is
 -- selected twice is two nodes (RFC 9535, 2.1.2).

@@ -10,7 +10,7 @@ use Rattle.jsonpath_base.specs.documents.Meaning.{selected}
 use Rattle.jsonpath_rust.specs.selection.Condition.{expression_of}
 use Rattle.jsonpath_rust.specs.declared.selection.condition.Condition.{Condition}
 use Rattle.jsonpath_rust.specs.declared.selection.condition.ConditionRunner.{ConditionRunner}
-use Rattle.jsonpath_rust.specs.declared.selection.planned.Planned.{Planned}
+use Rattle.jsonpath_rust.specs.declared.selection.runner.Planned.{Planned}
 use Rattle.jsonpath_rust.specs.declared.selection.prepared.Prepared.{Prepared}
 use Rattle.jsonpath_rust.specs.declared.selection.prepared.PreparedRef.{PreparedRef}
 use Rattle.jsonpath_rust.specs.declared.selection.runner.Runner.{Runner}

@@ -23,7 +23,7 @@ impl Whole<Value> {
         ensures normal { (l : Location) → IsNormal l path.now → HasIndexesInRange l →
             IfOk result (λ found. IsPut l (value_tree self.old.value) (value_tree new.value) found
             (value_tree self.new.value)) }
-        ensures kept { OnErr result (self.new.value ≡ self.old.value) }
+        ensures unchanged_on_error { OnErr result (self.new.value ≡ self.old.value) }
         ensures memory { IfErr result (λ e. e ≡ OutOfMemory) }
     {
         replace_by_path(alloc, &mut self.value, path, new.value)
@@ -50,7 +50,7 @@ impl Whole<Value> {
             (value_tree self.old.value)) }
         ensures found { IfOk result (λ b. b ≡ takes_at (location_view parent.now) (owned_step step) (value_tree self.old.value)) }
         ensures unchanged { IfOk result (λ b. b ≡ false → view self.new.value ≡ view self.old.value) }
-        ensures kept { OnErr result (view self.new.value ≡ view self.old.value) }
+        ensures unchanged_on_error { OnErr result (view self.new.value ≡ view self.old.value) }
         ensures memory { IfErr result (λ e. e ≡ OutOfMemory) }
     {
         add_at(alloc, &mut self.value, parent, step, new.value)
@@ -71,7 +71,7 @@ impl Whole<Value> {
     pub fn delete_by_path(&mut self, alloc: Global, path: &str) -> Queried<usize>
         ensures deleted { ByText MAX_NESTING_DEPTH path.now (value_document self.old.value) (Deletion (value_tree self.new.value))
             (DeletionAt (value_tree self.new.value)) result }
-        ensures kept { OnErr result (self.new.value ≡ self.old.value) }
+        ensures unchanged_on_error { OnErr result (self.new.value ≡ self.old.value) }
     {
         delete_within(alloc, &mut self.value, path, MAX_NESTING_DEPTH)
     }
@@ -80,7 +80,7 @@ impl Whole<Value> {
     pub fn delete_within(&mut self, alloc: Global, path: &str, depth: usize) -> Queried<usize>
         ensures deleted { ByText depth path.now (value_document self.old.value) (Deletion (value_tree self.new.value))
             (DeletionAt (value_tree self.new.value)) result }
-        ensures kept { OnErr result (self.new.value ≡ self.old.value) }
+        ensures unchanged_on_error { OnErr result (self.new.value ≡ self.old.value) }
     {
         delete_within(alloc, &mut self.value, path, depth)
     }
@@ -91,7 +91,7 @@ impl Whole<Value> {
             ≡ without (is_among (map (λ p. location_view p.items) places.now))
             (value_tree self.old.value)) }
         ensures count { IfOk result (λ n. n ≡ distinct_count (map (λ p. location_view p.items) places.now)) }
-        ensures kept { OnErr result (self.new.value ≡ self.old.value) }
+        ensures unchanged_on_error { OnErr result (self.new.value ≡ self.old.value) }
         ensures memory { IfErr result (λ e. e ≡ OutOfMemory) }
     {
         remove_all(alloc, &mut self.value, places)
@@ -108,7 +108,7 @@ impl Whole<Value> {
         ensures replaced { ByText depth path.now (value_document self.old.value)
             (Replacement (value_tree new.now.value) (value_tree self.new.value))
             (ReplacementAt (value_tree new.now.value) (value_tree self.new.value)) result }
-        ensures kept { OnErr result (self.new.value ≡ self.old.value) }
+        ensures unchanged_on_error { OnErr result (self.new.value ≡ self.old.value) }
     {
         replace_within(alloc, &mut self.value, path, depth, &new.value)
     }
@@ -123,7 +123,7 @@ impl Whole<Value> {
         ensures replaced { ByText MAX_NESTING_DEPTH path.now (value_document self.old.value)
             (Replacement (value_tree new.now.value) (value_tree self.new.value))
             (ReplacementAt (value_tree new.now.value) (value_tree self.new.value)) result }
-        ensures kept { OnErr result (self.new.value ≡ self.old.value) }
+        ensures unchanged_on_error { OnErr result (self.new.value ≡ self.old.value) }
     {
         replace_all_by_path(alloc, &mut self.value, path, &new.value)
     }
@@ -139,7 +139,7 @@ impl Whole<Value> {
             ≡ overwritten (is_among (map (λ p. location_view p.items) places.now))
             (value_tree new.now.value) (value_tree self.old.value)) }
         ensures count { IfOk result (λ n. n ≡ distinct_count (map (λ p. location_view p.items) places.now)) }
-        ensures kept { OnErr result (self.new.value ≡ self.old.value) }
+        ensures unchanged_on_error { OnErr result (self.new.value ≡ self.old.value) }
         ensures memory { IfErr result (λ e. e ≡ OutOfMemory) }
     {
         replace_all(alloc, &mut self.value, places, &new.value)

@@ -5,7 +5,7 @@ ghost use Rattle.jsonpath_rust.specs.Prelude.Selection.{runner_view};
 ghost use Rattle.jsonpath_rust.specs.Prelude.Calls.{Deletion, Replacement, Runs};
 
 use crate::documents::whole::Whole;
-use crate::selection::{Limits, Runner};
+use crate::selection::{Limit, Runner};
 use serde_json::Value;
 use std::alloc::Global;
 
@@ -18,14 +18,14 @@ impl Whole<Value> {
     /// Those of each call of a [`Runner`]; after any of them the document is as it was.
     ///
     /// [`delete_within`]: crate::query::delete_within
-    pub fn delete<L: Limits>(
+    pub fn delete<L: Limit>(
         &mut self,
         alloc: Global,
         runner: &mut Runner<'_, L>,
-    ) -> Result<usize, L::Stop>
+    ) -> Result<usize, L::Error>
         ensures deleted { Runs L.stops (runner_view runner.old) (runner_view runner.new) (value_document self.old.value)
             (Deletion (value_tree self.new.value)) result }
-        ensures kept { OnErr result (self.new.value ≡ self.old.value) }
+        ensures unchanged_on_error { OnErr result (self.new.value ≡ self.old.value) }
     {
         runner.delete(alloc, &mut self.value)
     }
@@ -38,15 +38,15 @@ impl Whole<Value> {
     /// Those of each call of a [`Runner`]; after any of them the document is as it was.
     ///
     /// [`replace_within`]: crate::query::replace_within
-    pub fn replace<L: Limits>(
+    pub fn replace<L: Limit>(
         &mut self,
         alloc: Global,
         runner: &mut Runner<'_, L>,
         new: &Whole<Value>,
-    ) -> Result<usize, L::Stop>
+    ) -> Result<usize, L::Error>
         ensures replaced { Runs L.stops (runner_view runner.old) (runner_view runner.new) (value_document self.old.value)
             (Replacement (value_tree new.now.value) (value_tree self.new.value)) result }
-        ensures kept { OnErr result (self.new.value ≡ self.old.value) }
+        ensures unchanged_on_error { OnErr result (self.new.value ≡ self.old.value) }
     {
         runner.replace(alloc, &mut self.value, &new.value)
     }

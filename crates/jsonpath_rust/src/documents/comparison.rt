@@ -1,9 +1,9 @@
 //! How values compare (RFC 9535, 2.3.5.2.2).
 ghost use Rattle.std.specs.Prelude.{◌≡◌};
 ghost use Rattle.jsonpath_base.specs.Prelude.Documents.{are_equal, compares, is_below, operator_view, same};
-ghost use Rattle.jsonpath_rust.specs.Prelude.Documents.{scalar_tree, side_tree, tree_of};
+ghost use Rattle.jsonpath_rust.specs.Prelude.Documents.{scalar_tree, filter_ref_tree, tree_of};
 
-use crate::documents::operand::{Scalar, Side};
+use crate::documents::filter_value::{FilterValueRef, Scalar};
 use crate::documents::queryable::Queryable;
 use crate::documents::whole::{Whole, WholeRef};
 use jsonpath_base::text_less;
@@ -13,10 +13,10 @@ use jsonpath_parser::model::Operator;
 #[inline(always)]
 pub fn compares<'a, 's, T: Queryable>(
     operator: Operator,
-    left: &Side<'a, 's, T>,
-    right: &Side<'a, 's, T>,
+    left: &FilterValueRef<'a, 's, T>,
+    right: &FilterValueRef<'a, 's, T>,
 ) -> bool
-    ensures { result ≡ compares (operator_view operator) (side_tree left.now) (side_tree right.now) }
+    ensures { result ≡ compares (operator_view operator) (filter_ref_tree left.now) (filter_ref_tree right.now) }
 {
     match operator {
         Operator::Equal => are_equal(left, right),
@@ -29,15 +29,24 @@ pub fn compares<'a, 's, T: Queryable>(
 }
 
 /// Whether both are absent, or the same.
-fn are_equal<'a, 's, T: Queryable>(left: &Side<'a, 's, T>, right: &Side<'a, 's, T>) -> bool
-    ensures { result ≡ are_equal (side_tree left.now) (side_tree right.now) }
+fn are_equal<'a, 's, T: Queryable>(
+    left: &FilterValueRef<'a, 's, T>,
+    right: &FilterValueRef<'a, 's, T>,
+) -> bool
+    ensures { result ≡ are_equal (filter_ref_tree left.now) (filter_ref_tree right.now) }
 {
     match (left, right) {
-        (Side::Absent, Side::Absent) => true,
-        (Side::Lent(value), Side::Lent(other)) => value.equal(*other),
-        (Side::Lent(value), Side::Plain(scalar)) => is_scalar(*value, *scalar),
-        (Side::Plain(scalar), Side::Lent(value)) => is_scalar(*value, *scalar),
-        (Side::Plain(scalar), Side::Plain(other)) => scalars_are_same(*scalar, *other),
+        (FilterValueRef::Absent, FilterValueRef::Absent) => true,
+        (FilterValueRef::Borrowed(value), FilterValueRef::Borrowed(other)) => value.equal(*other),
+        (FilterValueRef::Borrowed(value), FilterValueRef::Plain(scalar)) => is_scalar(
+            *value, *scalar,
+        ),
+        (FilterValueRef::Plain(scalar), FilterValueRef::Borrowed(value)) => is_scalar(
+            *value, *scalar,
+        ),
+        (FilterValueRef::Plain(scalar), FilterValueRef::Plain(other)) => scalars_are_same(
+            *scalar, *other,
+        ),
         _ => false,
     }
 }
@@ -49,7 +58,7 @@ fn is_scalar<T: Queryable>(value: WholeRef<'_, T>, scalar: Scalar<'_>) -> bool
     ensures right { result ≡ same (scalar_tree scalar.entry) (tree_of value.entry) }
 {
     match scalar {
-        Scalar::Null => value.equal(Whole { value: T::null() }.lent()),
+        Scalar::Null => value.equal(Whole { value: T::null() }.as_ref()),
         Scalar::Truth(truth) => value.as_bool() == Some(truth),
         Scalar::Number(number) => value.as_i64() == Some(number),
         Scalar::Text(text) => value.as_str() == Some(text),
@@ -71,8 +80,11 @@ fn scalars_are_same(left: Scalar<'_>, right: Scalar<'_>) -> bool
 }
 
 /// Whether both are numbers or both are texts, and the left is less.
-pub fn is_below<'a, 's, T: Queryable>(left: &Side<'a, 's, T>, right: &Side<'a, 's, T>) -> bool
-    ensures { result ≡ is_below (side_tree left.now) (side_tree right.now) }
+pub fn is_below<'a, 's, T: Queryable>(
+    left: &FilterValueRef<'a, 's, T>,
+    right: &FilterValueRef<'a, 's, T>,
+) -> bool
+    ensures { result ≡ is_below (filter_ref_tree left.now) (filter_ref_tree right.now) }
 {
     match (left.as_number(), right.as_number()) {
         (Some(a), Some(b)) => a < b,

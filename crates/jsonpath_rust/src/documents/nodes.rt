@@ -11,7 +11,7 @@ use std::alloc::{AllocError, Global};
 
 /// What a walk found where the only node is wanted: none, one with this value, or several.
 #[derive(Clone, Copy)]
-pub enum WholeSole<'a, T: Queryable> {
+pub enum WholeSingle<'a, T: Queryable> {
     Nothing,
     One(WholeRef<'a, T>),
     Several,

@@ -9,7 +9,7 @@ ghost use Rattle.jsonpath_rust.specs.Deleting.{Deletes, Deletion, DeletionAt};
 use crate::documents::Queried;
 use crate::documents::queryable::Queryable;
 use crate::documents::whole::WholeRef;
-use crate::selection::{Limits, Prepared, Runner};
+use crate::selection::{Limit, Prepared, Runner};
 use jsonpath_parser::MAX_NESTING_DEPTH;
 use jsonpath_parser::errors::JsonPathError;
 use serde_json::Value;
@@ -24,7 +24,7 @@ pub trait Deletable: Queryable {
     /// refuses by `InvalidJsonPath`. After any refusal the value has the tree it had.
     fn delete_by_path(&mut self, alloc: Global, _path: &str) -> Queried<usize>
         requires { IsTrue (Self.is_whole self.old) }
-        ensures kept { OnErr result (Self.tree self.new ≡ Self.tree self.old) }
+        ensures unchanged_on_error { OnErr result (Self.tree self.new ≡ Self.tree self.old) }
         ensures whole { IsTrue (Self.is_whole self.new) }
         ensures deleted { IfOk result (Deletes MAX_NESTING_DEPTH _path.now (document_of Self.tree Self.custom self.old) (Self.tree self.new)) }
         ensures refused { deletes ≡ false → IsErrAnd result IsUnsupported }
@@ -41,7 +41,7 @@ impl Deletable for Value {
         requires { IsTrue (value_is_whole self.old) }
         ensures deleted { ByText MAX_NESTING_DEPTH path.now (value_document self.old) (Deletion (value_tree self.new))
             (DeletionAt (value_tree self.new)) result }
-        ensures kept { OnErr result (self.new ≡ self.old) }
+        ensures unchanged_on_error { OnErr result (self.new ≡ self.old) }
         ensures whole { IsTrue (value_is_whole self.new) }
     {
         delete_within(alloc, self, path, MAX_NESTING_DEPTH)
@@ -65,20 +65,20 @@ pub fn delete_within(alloc: Global, value: &mut Value, path: &str, depth: usize)
     requires { IsTrue (value_is_whole value.old) }
     ensures deleted { ByText depth path.now (value_document value.old) (Deletion (value_tree value.new))
         (DeletionAt (value_tree value.new)) result }
-    ensures kept { OnErr result (value.new ≡ value.old) }
+    ensures unchanged_on_error { OnErr result (value.new ≡ value.old) }
     ensures whole { IsTrue (value_is_whole value.new) }
 {
     let query = Prepared::read_within(alloc, path, depth)?;
     query.runner(alloc).delete(alloc, value)
 }
 
-impl<'p, L: Limits> Runner<'p, L> {
+impl<'p, L: Limit> Runner<'p, L> {
     /// Removes all locations that the query selects in a document, and returns how many distinct ones there are.
-    pub(crate) fn delete(&mut self, alloc: Global, value: &mut Value) -> Result<usize, L::Stop>
+    pub(crate) fn delete(&mut self, alloc: Global, value: &mut Value) -> Result<usize, L::Error>
         requires { IsTrue (value_is_whole value.old) }
         ensures deleted { Runs L.stops (runner_view self.old) (runner_view self.new) (value_document value.old)
             (Deletion (value_tree value.new)) result }
-        ensures kept { OnErr result (value.new ≡ value.old) }
+        ensures unchanged_on_error { OnErr result (value.new ≡ value.old) }
         ensures whole { IsTrue (value_is_whole value.new) }
     {
         let marked = self.marked(alloc, WholeRef { value }, 0)?;

@@ -60,9 +60,9 @@ pub fn singular_selects_one_at_most()
     ensures { SingularSelectsOneAtMost }
 {}
 
-/// Each location that a query selects begins with its fixed part, whose steps are [`fixed_steps`].
+/// Each location that a query selects begins with its fixed part, whose steps are [`constant_prefix`].
 ///
-/// [`fixed_steps`]: jsonpath_base::fixed_steps
+/// [`constant_prefix`]: jsonpath_base::constant_prefix
 pub fn selected_begins_with_fixed_part()
     ensures { SelectedBeginsWithFixedPart }
 {}

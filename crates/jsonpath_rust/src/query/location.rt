@@ -3,9 +3,9 @@ ghost use Rattle.std.specs.Prelude.{◌≡◌, IfErr, IfOk, MatchResult, option_
 ghost use Rattle.jsonpath_base.specs.Prelude.Documents.{Derives, HasIndexesInRange, IsLocationByPath, IsLocationOf, IsNormal, IsRefusal, Location, location_view, OutOfMemory, Query, query_view};
 
 use crate::documents::Queried;
-use jsonpath_base::{Step, fixed_steps};
+use jsonpath_base::{Step, constant_prefix};
 use jsonpath_parser::model::JpQuery;
-use jsonpath_parser::{MAX_NESTING_DEPTH, let_go, parse_json_path};
+use jsonpath_parser::{MAX_NESTING_DEPTH, drop_query, parse_json_path};
 use std::alloc::Global;
 
 /// The location that a query means in every document, or None: each of its segments is one name, or one index from 0
@@ -16,7 +16,7 @@ pub fn location_of(alloc: Global, query: &JpQuery) -> Queried<Option<Vec<Step>>>
     ensures location { IfOk result (λ o. IsLocationOf (query_view query.now) (option_map (λ v. location_view v.items) o)) }
     ensures memory { IfErr result (λ e. e ≡ OutOfMemory) }
 {
-    let steps = fixed_steps(alloc, query)?;
+    let steps = constant_prefix(alloc, query)?;
     if steps.len() == query.segments.len() {
         Ok(Some(steps))
     } else {
@@ -34,7 +34,7 @@ pub fn location_by_path(alloc: Global, path: &str) -> Queried<Option<Vec<Step>>>
     ensures location { IfOk result (λ o. IsLocationByPath path.now (option_map (λ v. location_view v.items) o)) }
 
     // Whatever query the text derives, its location is returned, unless memory ran out.
-    ensures only { (q : Query) → Derives MAX_NESTING_DEPTH path.now q → MatchResult result
+    ensures complete { (q : Query) → Derives MAX_NESTING_DEPTH path.now q → MatchResult result
         (λ o. IsLocationOf q (option_map (λ v. location_view v.items) o))
         (λ e. e ≡ OutOfMemory) }
 
@@ -46,6 +46,6 @@ pub fn location_by_path(alloc: Global, path: &str) -> Queried<Option<Vec<Step>>>
 {
     let query = parse_json_path(alloc, path)?;
     let location = location_of(alloc, &query);
-    let_go(query);
+    drop_query(query);
     location
 }

@@ -5,9 +5,9 @@ ghost use Rattle.jsonpath_rust.specs.Prelude.Selection.{runner_view};
 ghost use Rattle.jsonpath_rust.specs.Prelude.Calls.{ByText, Replacement, ReplacementAt, Runs};
 
 use crate::documents::Queried;
-use crate::documents::halt::Halt;
+use crate::documents::walk_error::WalkError;
 use crate::documents::whole::WholeRef;
-use crate::selection::{Limits, Prepared, Runner};
+use crate::selection::{Limit, Prepared, Runner};
 use jsonpath_parser::MAX_NESTING_DEPTH;
 use serde_json::Value;
 use std::alloc::Global;
@@ -36,7 +36,7 @@ pub fn replace_within(
     requires new_whole { IsTrue (value_is_whole new.now) }
     ensures replaced { ByText depth path.now (value_document value.old) (Replacement (value_tree new.now) (value_tree value.new))
         (ReplacementAt (value_tree new.now) (value_tree value.new)) result }
-    ensures kept { OnErr result (value.new ≡ value.old) }
+    ensures unchanged_on_error { OnErr result (value.new ≡ value.old) }
     ensures whole { IsTrue (value_is_whole value.new) }
 {
     let query = Prepared::read_within(alloc, path, depth)?;
@@ -55,13 +55,13 @@ pub fn replace_all_by_path(
     ensures replaced { ByText MAX_NESTING_DEPTH path.now (value_document value.old)
         (Replacement (value_tree new.now) (value_tree value.new))
         (ReplacementAt (value_tree new.now) (value_tree value.new)) result }
-    ensures kept { OnErr result (value.new ≡ value.old) }
+    ensures unchanged_on_error { OnErr result (value.new ≡ value.old) }
     ensures whole { IsTrue (value_is_whole value.new) }
 {
     replace_within(alloc, value, path, MAX_NESTING_DEPTH, new)
 }
 
-impl<'p, L: Limits> Runner<'p, L> {
+impl<'p, L: Limit> Runner<'p, L> {
     /// Puts a copy of `new` at all locations that the query selects in a document, and returns how many distinct ones
     /// there are.
     pub(crate) fn replace(
@@ -69,19 +69,19 @@ impl<'p, L: Limits> Runner<'p, L> {
         alloc: Global,
         value: &mut Value,
         new: &Value,
-    ) -> Result<usize, L::Stop>
+    ) -> Result<usize, L::Error>
         requires value_whole { IsTrue (value_is_whole value.old) }
         requires new_whole { IsTrue (value_is_whole new.now) }
         ensures replaced { Runs L.stops (runner_view self.old) (runner_view self.new) (value_document value.old)
             (Replacement (value_tree new.now) (value_tree value.new)) result }
-        ensures kept { OnErr result (value.new ≡ value.old) }
+        ensures unchanged_on_error { OnErr result (value.new ≡ value.old) }
         ensures whole { IsTrue (value_is_whole value.new) }
     {
         let copy = self.copy_cost(alloc, WholeRef { value: new })?;
         let marked = self.marked(alloc, WholeRef { value }, copy)?;
         match marked.replace_in(alloc, value, new) {
             Ok(()) => Ok(marked.count()),
-            Err(_memory) => Err(L::stop(alloc, Halt::Memory)),
+            Err(_memory) => Err(L::error(alloc, WalkError::Memory)),
         }
     }
 }

@@ -1,23 +1,27 @@
 //! Functions and their arguments (RFC 9535, 2.4).
-ghost use Rattle.std.specs.Prelude.{◌++◌, ◌∷◌, ◌≡◌, IfErr, IfOk, Some, string_bytes};
-ghost use Rattle.jsonpath_base.specs.Prelude.Documents.{all_trees, answer, argued, argument_patterns, arguments_patterns, as_value, call_patterns, is_entire, is_matched, IsPattern, truth};
-ghost use Rattle.jsonpath_rust.specs.Prelude.Documents.{Memory, operand_tree};
-ghost use Rattle.jsonpath_rust.specs.Prelude.Selection.{arguments_meant, call_view, Comes, document, here, kept_of, Sole, part_view, StandsAt};
+ghost use Rattle.jsonpath_base.specs.Prelude.Documents.{IsPattern, all_trees, answer, argued, argument_patterns, arguments_patterns, as_trees, as_value, call_patterns, is_entire, is_matched, of_nodes, segments_patterns, truth};
+ghost use Rattle.jsonpath_rust.specs.Prelude.Documents.{Memory, arg_trees, filter_value_tree};
+ghost use Rattle.jsonpath_rust.specs.Prelude.Selection.{EndsProperly, IsOne, IsPositionedAt, IsWalkError, Limited, ResultView, Single, Values, arguments_meant, at_current, call_view, constants_of, demanded_value, document, expr_view, result_for, result_view, segments_meant, selected_from, slot_at, slots_of, trees_in};
+ghost use Rattle.std.specs.Prelude.{IfErr, IfOk, OnOk, Some, [], length, option_to_list, string_bytes, ◌++◌, ◌+◌, ◌∷◌, ◌≡◌};
 
 use crate::documents::args::Args;
-use crate::documents::halt::Walked;
-use crate::documents::operand::{Operand, Scalar, Side, count_scalar};
+use crate::documents::filter_value::{
+    FilterValue, FilterValueRef, Scalar, count_scalar, scalar_of,
+};
 use crate::documents::queryable::Queryable;
+use crate::documents::walk_error::WalkResult;
 use crate::documents::whole::{Whole, WholeRef};
-use crate::selection::plan::{Call, Part};
-use crate::selection::sink::Wanted;
-use crate::selection::trail::Trail;
-use crate::selection::walk::Task;
-use jsonpath_base::Extent;
-use jsonpath_base::engine::{Asked, Finders, Origin};
+use crate::selection::constants::{Cache, CachedResult};
+use crate::selection::filter::lookup_in;
+use crate::selection::limits::Budget;
+use crate::selection::plan::{Call, Expr, Segment};
+use crate::selection::sink::{Demand, Sink};
+use crate::selection::walk::{WalkContext, WalkState};
+use jsonpath_base::MatchKind;
+use jsonpath_base::engine::{Origin, PatternCache, PatternKey};
 use std::alloc::Global;
 
-impl<'a: 's, 's, T: Queryable> Task<'a, 's, T> {
+impl<'a: 's, 's, T: Queryable> WalkContext<'a, 's, T> {
     /// What a call returns at a value, to which the way leads.
     #[cycle(walk)]
     #[tactic(auto, using(crate::proofs::laws::selection::PlanEquations::plan_equations))]
@@ -25,40 +29,40 @@ impl<'a: 's, 's, T: Queryable> Task<'a, 's, T> {
         &self,
         call: &'s Call,
         at: WholeRef<'a, T>,
-        trail: &mut Trail<'a, 's, '_, T>,
-    ) -> Walked<Operand<'a, 's, T>>
-        requires { StandsAt self.now at trail.old }
-        ensures value { IfOk result (λ o. operand_tree o
-            ≡ here self.now trail.old at.entry (answer (call_view (kept_of self.now) call.now))) }
-        ensures comes { Comes self.now trail.old trail.new (call_patterns (call_view (kept_of self.now) call.now)) result }
+        state: &mut WalkState<'a, 's, '_, T>,
+    ) -> WalkResult<FilterValue<'a, 's, T>>
+        requires { IsPositionedAt self.now at state.old }
+        ensures value { IfOk result (λ o. filter_value_tree o
+            ≡ at_current self.now state.old at.entry (answer (call_view (constants_of self.now) call.now))) }
+        ensures comes { EndsProperly self.now state.old state.new (call_patterns (call_view (constants_of self.now) call.now)) result }
     {
         match call {
-            Call::Custom(name, args) => self.custom(name, args, at, trail),
+            Call::Custom(name, args) => self.custom(name, args, at, state),
             Call::Length(arg) => {
-                let value = self.value(arg, Wanted::Sole, at, trail)?;
+                let value = self.value(arg, Demand::Single, at, state)?;
                 let cost = self.limit.length_cost(self.alloc, &value.as_side())?;
-                trail.budget.spend(self.limit, cost)?;
+                state.budget.spend(self.limit, cost)?;
                 value.length(self.alloc)
             }
             Call::Value(arg) => {
-                if self.plan.is_query(arg, Wanted::Sole) {
-                    self.value(arg, Wanted::Sole, at, trail)
+                if self.plan.is_query(arg, Demand::Single) {
+                    self.value(arg, Demand::Single, at, state)
                 } else {
-                    Ok(Operand::Side(Side::Absent))
+                    Ok(FilterValue::Ref(FilterValueRef::Absent))
                 }
             }
             Call::Count(arg) => {
-                if self.plan.is_query(arg, Wanted::Count) {
-                    self.value(arg, Wanted::Count, at, trail)
+                if self.plan.is_query(arg, Demand::Count) {
+                    self.value(arg, Demand::Count, at, state)
                 } else {
-                    Ok(Operand::Side(Side::Plain(count_scalar(0))))
+                    Ok(FilterValue::Ref(FilterValueRef::Plain(count_scalar(0))))
                 }
             }
             Call::Search(text, pattern) => {
-                self.match_or_search((text, pattern), Extent::Substring, at, trail)
+                self.match_or_search((text, pattern), MatchKind::Partial, at, state)
             }
             Call::Match(text, pattern) => {
-                self.match_or_search((text, pattern), Extent::Entire, at, trail)
+                self.match_or_search((text, pattern), MatchKind::Full, at, state)
             }
         }
     }
@@ -68,31 +72,31 @@ impl<'a: 's, 's, T: Queryable> Task<'a, 's, T> {
     #[cycle(walk)]
     fn match_or_search(
         &self,
-        args: (&'s Part, &'s Part),
-        extent: Extent,
+        args: (&'s Expr, &'s Expr),
+        extent: MatchKind,
         at: WholeRef<'a, T>,
-        trail: &mut Trail<'a, 's, '_, T>,
-    ) -> Walked<Operand<'a, 's, T>>
-        requires { StandsAt self.now at trail.old }
-        ensures value { IfOk result (λ o. operand_tree o ≡ Some (truth (is_matched (is_entire extent)
-            (as_value (here self.now trail.old at.entry (argued (part_view (kept_of self.now) args.entry.0.now Sole))))
-            (as_value (here self.now trail.old at.entry (argued (part_view (kept_of self.now) args.entry.1.now Sole))))))) }
-        ensures comes { Comes self.now trail.old trail.new
-            ((is_entire extent, part_view (kept_of self.now) args.entry.1.now Sole)
-            ∷ (argument_patterns (part_view (kept_of self.now) args.entry.0.now Sole)
-            ++ argument_patterns (part_view (kept_of self.now) args.entry.1.now Sole))) result }
+        state: &mut WalkState<'a, 's, '_, T>,
+    ) -> WalkResult<FilterValue<'a, 's, T>>
+        requires { IsPositionedAt self.now at state.old }
+        ensures value { IfOk result (λ o. filter_value_tree o ≡ Some (truth (is_matched (is_entire extent)
+            (as_value (at_current self.now state.old at.entry (argued (expr_view (constants_of self.now) args.entry.0.now Single))))
+            (as_value (at_current self.now state.old at.entry (argued (expr_view (constants_of self.now) args.entry.1.now Single))))))) }
+        ensures comes { EndsProperly self.now state.old state.new
+            ((is_entire extent, expr_view (constants_of self.now) args.entry.1.now Single)
+            ∷ (argument_patterns (expr_view (constants_of self.now) args.entry.0.now Single)
+            ++ argument_patterns (expr_view (constants_of self.now) args.entry.1.now Single))) result }
     {
         let origin = origin_of(args.1);
-        let text = self.operand(args.0, at, trail)?;
-        let pattern = self.operand(args.1, at, trail)?;
+        let text = self.operand(args.0, at, state)?;
+        let pattern = self.operand(args.1, at, state)?;
         let how = (extent, origin);
         let cost = self
             .limit
-            .search_cost(self.alloc, &trail.finders, (&text, &pattern), how)?;
-        trail.budget.spend(self.limit, cost)?;
-        let finders = &mut trail.finders;
+            .search_cost(self.alloc, &state.finders, (&text, &pattern), how)?;
+        state.budget.spend(self.limit, cost)?;
+        let finders = &mut state.finders;
         let found = is_matched(self.alloc, finders, (&text, &pattern), extent, origin)?;
-        Ok(Operand::Side(Side::Plain(Scalar::Truth(found))))
+        Ok(FilterValue::Ref(FilterValueRef::Plain(Scalar::Truth(found))))
     }
 
     /// What a custom function returns.
@@ -100,34 +104,34 @@ impl<'a: 's, 's, T: Queryable> Task<'a, 's, T> {
     fn custom(
         &self,
         name: &'s String,
-        args: &'s [Part],
+        args: &'s [Expr],
         at: WholeRef<'a, T>,
-        trail: &mut Trail<'a, 's, '_, T>,
-    ) -> Walked<Operand<'a, 's, T>>
-        requires { StandsAt self.now at trail.old }
-        ensures value { IfOk result (λ o. operand_tree o
+        state: &mut WalkState<'a, 's, '_, T>,
+    ) -> WalkResult<FilterValue<'a, 's, T>>
+        requires { IsPositionedAt self.now at state.old }
+        ensures value { IfOk result (λ o. filter_value_tree o
             ≡ Some ((document self.now).custom (string_bytes name.now)
-            (here self.now trail.old at.entry (all_trees (arguments_meant
-            (kept_of self.now) args.now))))) }
-        ensures comes { Comes self.now trail.old trail.new (arguments_patterns (arguments_meant (kept_of self.now) args.now)) result }
+            (at_current self.now state.old at.entry (all_trees (arguments_meant
+            (constants_of self.now) args.now))))) }
+        ensures comes { EndsProperly self.now state.old state.new (arguments_patterns (arguments_meant (constants_of self.now) args.now)) result }
     {
         let mut values = Args::new(self.alloc);
         for arg in args {
-            self.push(arg, at, trail, &mut values)?;
+            self.push(arg, at, state, &mut values)?;
         }
-        let most = trail.budget.left().saturating_add(1);
+        let most = state.budget.left().saturating_add(1);
         let cost = self.limit.custom_cost(self.alloc, &values, most)?;
-        trail.budget.spend(self.limit, cost)?;
+        state.budget.spend(self.limit, cost)?;
         let value = T::extension_custom(self.alloc, name, &values.list)?;
-        Ok(Operand::Made(Whole { value }))
+        Ok(FilterValue::Owned(Whole { value }))
     }
 }
 
 /// The number of the pattern that this argument is, where it has one; else it counts as one of the document.
 #[inline(always)]
-fn origin_of(arg: &Part) -> Origin {
+fn origin_of(arg: &Expr) -> Origin {
     match arg {
-        Part::Pattern(_text, number) => Origin::Query(*number),
+        Expr::Pattern(_text, number) => Origin::Query(*number),
         _ => Origin::Document,
     }
 }
@@ -136,18 +140,237 @@ fn origin_of(arg: &Part) -> Origin {
 /// memory ran out.
 fn is_matched<T: Queryable>(
     alloc: Global,
-    finders: &mut Finders<'_, '_>,
-    sides: (&Operand<'_, '_, T>, &Operand<'_, '_, T>),
-    extent: Extent,
+    finders: &mut PatternCache<'_, '_>,
+    sides: (&FilterValue<'_, '_, T>, &FilterValue<'_, '_, T>),
+    extent: MatchKind,
     origin: Origin,
-) -> Walked<bool>
-    ensures value { IfOk result (λ b. b ≡ is_matched (is_entire extent) (operand_tree sides.entry.0.now) (operand_tree sides.entry.1.now)) }
-    ensures refused { IfErr result (λ h. (h ≡ Memory → ⊥) → IsPattern (is_entire extent) (operand_tree sides.entry.1.now)) }
+) -> WalkResult<bool>
+    ensures value { IfOk result (λ b. b ≡ is_matched (is_entire extent) (filter_value_tree sides.entry.0.now) (filter_value_tree sides.entry.1.now)) }
+    ensures refused { IfErr result (λ h. (h ≡ Memory → ⊥) → IsPattern (is_entire extent) (filter_value_tree sides.entry.1.now)) }
 {
     let (text, pattern) = (sides.0.as_side(), sides.1.as_side());
     let (Some(text), Some(pattern)) = (text.as_text(), pattern.as_text()) else {
         return Ok(false);
     };
-    let asked = Asked { pattern, extent };
+    let asked = PatternKey { pattern, extent };
     Ok(finders.is_found(alloc, text, asked, origin)?)
+}
+
+impl<'a: 's, 's, T: Queryable> WalkContext<'a, 's, T> {
+    /// Adds a value, if it is not absent, for a unit.
+    pub fn push_value(
+        &self,
+        value: FilterValue<'a, 's, T>,
+        budget: &mut Budget,
+        args: &mut Args<'a, T>,
+    ) -> WalkResult<()>
+        ensures value { OnOk result (arg_trees args.new ≡ arg_trees args.old ++ option_to_list (filter_value_tree value.entry)) }
+        ensures paid { OnOk result (self.now.limit ≡ Limited →
+            budget.new.left + length (option_to_list (filter_value_tree value.entry)) ≡ budget.old.left) }
+        ensures halts { IfErr result (IsWalkError self.now.limit [] (document self.now)) }
+    {
+        budget.spend(self.limit, value.count())?;
+        value.push_to(self.alloc, args)
+    }
+
+    /// Adds the values that are given, for a unit each.
+    pub fn push_given(
+        &self,
+        given: &CachedResult<'a, 's, T>,
+        budget: &mut Budget,
+        args: &mut Args<'a, T>,
+    ) -> WalkResult<()>
+        ensures value { OnOk result (arg_trees args.new ≡ arg_trees args.old ++ trees_in (result_view given.now)) }
+        ensures paid { OnOk result (self.now.limit ≡ Limited →
+            budget.new.left + length (trees_in (result_view given.now)) ≡ budget.old.left) }
+        ensures halts { IfErr result (IsWalkError self.now.limit [] (document self.now)) }
+    {
+        budget.spend(self.limit, given.count())?;
+        given.push_to(self.alloc, args)
+    }
+
+    /// Adds what the constant of this number gave, if it is worked out, for a unit each, and for what a copy costs.
+    pub fn push_cached(
+        &self,
+        number: usize,
+        cache: &Cache<'a, 's, T>,
+        budget: &mut Budget,
+        args: &mut Args<'a, T>,
+    ) -> WalkResult<()>
+        ensures value { (g : ResultView) → slot_at (slots_of cache.now) number ≡ Some g →
+            OnOk result (arg_trees args.new ≡ arg_trees args.old ++ trees_in g) }
+        ensures halts { IfErr result (IsWalkError self.now.limit [] (document self.now)) }
+    {
+        match cache.get(number) {
+            Some(given) => {
+                self.pay_copy(given, budget)?;
+                self.push_given(given, budget, args)
+            }
+            None => Ok(()),
+        }
+    }
+
+    /// Pays for a copy of what is kept, where that is a value that a custom function made.
+    pub fn pay_copy(&self, given: &CachedResult<'a, 's, T>, budget: &mut Budget) -> WalkResult<()>
+        ensures halts { IfErr result (IsWalkError self.now.limit [] (document self.now)) }
+    {
+        if let CachedResult::Value(FilterValue::Owned(made)) = given {
+            let most = budget.left().saturating_add(1);
+            let cost = self.limit.copy_cost(self.alloc, made.as_ref(), most)?;
+            budget.spend(self.limit, cost)?;
+        }
+        Ok(())
+    }
+}
+
+impl<'a: 's, 's, T: Queryable> WalkContext<'a, 's, T> {
+    /// What is wanted of a part at a value, to which the way leads; the value of what is no query.
+    #[cycle(walk)]
+    #[tactic(auto, using(crate::proofs::laws::selection::PlanEquations::plan_equations))]
+    #[inline(never)]
+    pub fn value(
+        &self,
+        part: &'s Expr,
+        demand: Demand,
+        at: WholeRef<'a, T>,
+        state: &mut WalkState<'a, 's, '_, T>,
+    ) -> WalkResult<FilterValue<'a, 's, T>>
+        requires { IsPositionedAt self.now at state.old }
+        ensures value { IfOk result (λ o. filter_value_tree o
+            ≡ demanded_value demand (at_current self.now state.old at.entry (argued (expr_view (constants_of self.now) part.now demand)))) }
+        ensures comes { EndsProperly self.now state.old state.new (argument_patterns (expr_view (constants_of self.now) part.now demand)) result }
+    {
+        match part {
+            Expr::Literal(literal) => Ok(FilterValue::Ref(FilterValueRef::Plain(scalar_of(
+                literal,
+            )))),
+            Expr::Pattern(text, _number) => Ok(FilterValue::Ref(FilterValueRef::Plain(Scalar::Text(
+                text,
+            )))),
+            Expr::Lookup(steps) => {
+                let found = self.look_up(steps, at, &mut state.budget)?;
+                Ok(demand.of(found))
+            }
+            Expr::Children(steps) => {
+                let count = self.count_children(steps, at, &mut state.budget)?;
+                Ok(demand.of_count(count))
+            }
+            Expr::Walk(segments) => {
+                let given = self.gather(segments, demand, at, state)?;
+                Ok(given.into_value())
+            }
+            Expr::Call(call) => self.answer(call, at, state),
+            Expr::Filter(filter) => {
+                let truth = self.filter_holds(filter, at, state)?;
+                Ok(FilterValue::Ref(FilterValueRef::Plain(Scalar::Truth(truth))))
+            }
+            Expr::Constant(number) => {
+                if self.ensure_cached(*number, demand, state)? {
+                    self.cached_value(*number, &state.cache, &mut state.budget)
+                } else {
+                    Ok(demand.of(Some(self.root)))
+                }
+            }
+        }
+    }
+
+    /// The value of a part: what is looked up, at once.
+    #[cycle(walk)]
+    #[inline(always)]
+    pub fn operand(
+        &self,
+        part: &'s Expr,
+        at: WholeRef<'a, T>,
+        state: &mut WalkState<'a, 's, '_, T>,
+    ) -> WalkResult<FilterValue<'a, 's, T>>
+        requires { IsPositionedAt self.now at state.old }
+        ensures value { IfOk result (λ o. filter_value_tree o
+            ≡ as_value (at_current self.now state.old at.entry (argued (expr_view (constants_of self.now) part.now Single)))) }
+        ensures comes { EndsProperly self.now state.old state.new (argument_patterns (expr_view (constants_of self.now) part.now Single)) result }
+    {
+        if let Some(steps) = lookup_in(part) {
+            let found = self.look_up(steps, at, &mut state.budget)?;
+            return Ok(FilterValue::from_ref(found));
+        }
+        self.value(part, Demand::Single, at, state)
+    }
+
+    /// Adds a part to the arguments of a custom function: each value of a node of a query is one, as in the Rust crate;
+    /// else the value is one, if it is not absent. A unit is spent for each.
+    #[cycle(walk)]
+    #[tactic(auto, using(crate::proofs::laws::selection::PlanEquations::plan_equations))]
+    pub fn push(
+        &self,
+        part: &'s Expr,
+        at: WholeRef<'a, T>,
+        state: &mut WalkState<'a, 's, '_, T>,
+        args: &mut Args<'a, T>,
+    ) -> WalkResult<()>
+        requires { IsPositionedAt self.now at state.old }
+        ensures value { OnOk result (arg_trees args.new ≡ arg_trees args.old
+            ++ as_trees (at_current self.now state.old at.entry (argued (expr_view
+            (constants_of self.now) part.now Values)))) }
+        ensures comes { EndsProperly self.now state.old state.new (argument_patterns (expr_view (constants_of self.now) part.now Values)) result }
+    {
+        match part {
+            Expr::Walk(segments) => {
+                let given = self.gather(segments, Demand::Values, at, state)?;
+                self.push_given(&given, &mut state.budget, args)
+            }
+            Expr::Constant(number) => {
+                if self.ensure_cached(*number, Demand::Values, state)? {
+                    self.push_cached(*number, &state.cache, &mut state.budget, args)
+                } else {
+                    state.budget.spend(self.limit, 1)?;
+                    Ok(args.push_lent(self.root)?)
+                }
+            }
+            Expr::Literal(_literal) => self.push_one(part, at, state, args),
+            Expr::Pattern(_text, _number) => self.push_one(part, at, state, args),
+            Expr::Lookup(_steps) => self.push_one(part, at, state, args),
+            Expr::Children(_steps) => self.push_one(part, at, state, args),
+            Expr::Call(_call) => self.push_one(part, at, state, args),
+            Expr::Filter(_filter) => self.push_one(part, at, state, args),
+        }
+    }
+
+    /// The same of a part that has one value at most.
+    #[cycle(walk)]
+    fn push_one(
+        &self,
+        part: &'s Expr,
+        at: WholeRef<'a, T>,
+        state: &mut WalkState<'a, 's, '_, T>,
+        args: &mut Args<'a, T>,
+    ) -> WalkResult<()>
+        requires stands { IsPositionedAt self.now at state.old }
+        requires one { IsOne (constants_of self.now) part.now }
+        ensures value { OnOk result (arg_trees args.new ≡ arg_trees args.old
+            ++ as_trees (at_current self.now state.old at.entry (argued (expr_view
+            (constants_of self.now) part.now Values)))) }
+        ensures comes { EndsProperly self.now state.old state.new (argument_patterns (expr_view (constants_of self.now) part.now Values)) result }
+    {
+        let value = self.value(part, Demand::Single, at, state)?;
+        self.push_value(value, &mut state.budget, args)
+    }
+
+    /// What is wanted of the nodes of these segments, from a value on.
+    #[cycle(walk)]
+    pub fn gather(
+        &self,
+        segments: &'s [Segment],
+        demand: Demand,
+        at: WholeRef<'a, T>,
+        state: &mut WalkState<'a, 's, '_, T>,
+    ) -> WalkResult<CachedResult<'a, 's, T>>
+        requires { IsPositionedAt self.now at state.old }
+        ensures given { IfOk result (λ g. result_view g
+            ≡ result_for demand (of_nodes (at_current self.now state.old at.entry (selected_from (segments_meant
+            (constants_of self.now) segments.now))))) }
+        ensures comes { EndsProperly self.now state.old state.new (segments_patterns (segments_meant (constants_of self.now) segments.now)) result }
+    {
+        let mut sink = Sink::start(self.alloc, demand);
+        let _goes_on = self.walk(segments, at, state, &mut sink)?;
+        Ok(sink.finish(demand))
+    }
 }

@@ -1,19 +1,24 @@
 //! Conditions on a document itself.
-ghost use Rattle.std.specs.Prelude.{◌++◌, ◌≡◌, codes, IfErr, IfOk, is_some, MatchResult, Some, string_bytes, ℕ};
-ghost use Rattle.jsonpath_base.specs.Prelude.Documents.{Derives, filter_view, holds, IsCharBoundary, IsRefusal, IsStop, OutOfMemory, query_shown, query_view, root_node, segment_view};
-ghost use Rattle.jsonpath_rust.specs.Prelude.Documents.{document_at, tree_of};
-ghost use Rattle.jsonpath_rust.specs.Prelude.Selection.{condition_runner_view, condition_view, filter_of, filter_query, in_filter, IsConditionRefusal, IsConditionStop, prepared_view, runner_view, segment_filter};
+ghost use Rattle.jsonpath_base.specs.Prelude.Documents.{Derives, IsCharBoundary, IsRefusal, IsStop, OutOfMemory, atom_view, filter_view, holds, no_filters, or, query_shown, query_view, root_node, segment_view, segments_of, segments_patterns, test_view};
 ghost use Rattle.jsonpath_parser.specs.tree.Syntax as syntax;
+ghost use Rattle.jsonpath_parser.specs.tree.Typing as typing;
+ghost use Rattle.jsonpath_rust.specs.Prelude.Documents.{document_at, tree_of};
+ghost use Rattle.jsonpath_rust.specs.Prelude.Selection.{IsConditionRefusal, IsConditionStop, IsWalkError, condition_runner_view, condition_view, expression_of, filter_of, filter_query, in_filter, plan_view, prepared_view, runner_view, segment_filter, tests_singular};
+ghost use Rattle.std.specs.Prelude.{IfErr, IfOk, MatchResult, Some, codes, is_some, map, option_map, string_bytes, unwrap_or, ℕ, ◌++◌, ◌≡◌};
 
 use crate::documents::Queried;
 use crate::documents::queryable::Queryable;
+use crate::documents::walk_error::WalkResult;
 use crate::documents::whole::WholeRef;
-use crate::selection::limits::{Limits, Units, Unlimited};
+use crate::selection::limits::{Limit, Units, Unlimited};
+use crate::selection::plan;
 use crate::selection::prepared::Prepared;
-use crate::selection::runner::Runner;
+use crate::selection::runner::{Request, Runner};
+use crate::selection::walk::{WalkContext, WalkState};
+use jsonpath_base::engine::{DocumentPatternSlots, PatternCache, QueryMatchers};
 use jsonpath_parser::errors::{JsonPathError, Parsed};
-use jsonpath_parser::model::{Filter, JpQuery, Segment, Selector};
-use jsonpath_parser::{let_go, parse_json_path_within};
+use jsonpath_parser::model::{Filter, FilterAtom, JpQuery, Segment, Selector, Test};
+use jsonpath_parser::{are_steps, drop_query, is_singular, parse_json_path_within};
 use std::alloc::Global;
 use std::fmt;
 use std::fmt::{Debug, Formatter, Write};
@@ -55,7 +60,7 @@ impl Condition {
         ensures read { IfOk result (λ c. Derives depth (in_filter text.now) (filter_query (condition_view c))) }
 
         // Whatever expression the text is, it is the one asked, unless memory ran out.
-        ensures only { (f : syntax.Filter) → Derives depth (in_filter text.now) (filter_query f) →
+        ensures complete { (f : syntax.Filter) → Derives depth (in_filter text.now) (filter_query f) →
             MatchResult result (λ c. condition_view c ≡ f) (λ e. e ≡ OutOfMemory) }
         ensures refused { IfErr result (IsConditionRefusal depth text.now) }
     {
@@ -65,7 +70,7 @@ impl Condition {
             Err(error) => return Err(refusal(text, error)),
         };
         if !is_one_filter(&query) {
-            let_go(query);
+            drop_query(query);
             return Err(JsonPathError::PestError(place_in(text, whole.len())));
         }
         let prepared = Prepared::new(alloc, query)?;
@@ -110,11 +115,11 @@ impl Debug for Condition {
 ///
 /// For untrusted conditions the work of each call can be limited, by [`ConditionRunner::limited`].
 #[derive(Drop)]
-pub struct ConditionRunner<'c, L: Limits = Unlimited> {
+pub struct ConditionRunner<'c, L: Limit = Unlimited> {
     runner: Runner<'c, L>,
 }
 
-impl<'c, L: Limits> ConditionRunner<'c, L> {
+impl<'c, L: Limit> ConditionRunner<'c, L> {
     /// The runner, with a limit: each of its calls may take so many units of work. What these are spent for stands at
     /// [`Units`].
     pub fn limited(self, units: usize) -> ConditionRunner<'c, Units>
@@ -130,19 +135,19 @@ impl<'c, L: Limits> ConditionRunner<'c, L> {
         &mut self,
         alloc: Global,
         value: WholeRef<'_, T>,
-    ) -> Result<bool, L::Stop>
+    ) -> Result<bool, L::Error>
         ensures holds { IfOk result (λ b. b
             ≡ holds (condition_runner_view self.old) (document_at value.entry)
             (root_node (tree_of value.entry))) }
         ensures same { condition_runner_view self.new ≡ condition_runner_view self.old }
         ensures refused { IfErr result (IsConditionStop L.stops (condition_runner_view self.old) (document_at value.entry)) }
     {
-        self.runner.decided(alloc, value)
+        self.runner.evaluate_condition(alloc, value)
     }
 }
 
 /// `ConditionRunner` and its query between parentheses, as that is shown.
-impl<'c, L: Limits> Debug for ConditionRunner<'c, L> {
+impl<'c, L: Limit> Debug for ConditionRunner<'c, L> {
     ghost debug_output = { λ r. Some (codes "ConditionRunner(" ++ query_shown (runner_view r.runner) ++ codes ")") };
 
     fn fmt<W: Write>(&self, f: &mut Formatter<W>) -> fmt::Result {
@@ -165,26 +170,39 @@ fn query_text(alloc: Global, text: &str) -> Parsed<String>
 fn is_one_filter(query: &JpQuery) -> bool
     ensures { result ≡ is_some (filter_of (query_view query.now)) }
 {
+    only_filter(query).is_some()
+}
+
+/// The filter of a query `$[?..]`.
+fn only_filter(query: &JpQuery) -> Option<&Filter>
+    ensures { option_map (λ f. filter_view f.now) result ≡ filter_of (query_view query.now) }
+{
     match query.segments.split_first() {
-        None => false,
-        Some((first, rest)) => rest.is_empty() && is_filter(first),
+        None => None,
+        Some((first, rest)) => {
+            if rest.is_empty() {
+                segment_filter(first)
+            } else {
+                None
+            }
+        }
     }
 }
 
-/// Whether a segment is `[?..]`.
-fn is_filter(segment: &Segment) -> bool
-    ensures { result ≡ is_some (segment_filter (segment_view segment.now)) }
+/// The filter of a segment `[?..]`.
+fn segment_filter(segment: &Segment) -> Option<&Filter>
+    ensures { option_map (λ f. filter_view f.now) result ≡ segment_filter (segment_view segment.now) }
 {
     match segment {
         Segment::Selector(selector) => match selector {
-            Selector::Filter(_) => true,
-            Selector::Name(_) => false,
-            Selector::Wildcard => false,
-            Selector::Index(_) => false,
-            Selector::Slice(_, _, _) => false,
+            Selector::Filter(filter) => Some(filter),
+            Selector::Name(_) => None,
+            Selector::Wildcard => None,
+            Selector::Index(_) => None,
+            Selector::Slice(_, _, _) => None,
         },
-        Segment::Selectors(_) => false,
-        Segment::Descendant(_) => false,
+        Segment::Selectors(_) => None,
+        Segment::Descendant(_) => None,
     }
 }
 
@@ -204,4 +222,85 @@ fn place_in(text: &str, place: usize) -> usize
     ensures { IsCharBoundary text.now result }
 {
     text.floor_char_boundary(place.saturating_sub(OPENING.len()))
+}
+
+/// Whether the filter holds. The second result asks the patterns of the plan, and can do so for the next document.
+pub fn evaluate<'a, 'p, T: Queryable>(
+    alloc: Global,
+    request: Request<'_, 'p>,
+    root: WholeRef<'a, T>,
+) -> (WalkResult<bool>, QueryMatchers<'p>)
+    ensures holds { IfOk result.0 (λ b. b
+        ≡ holds (expression_of (plan_view request.entry.plan.now)) (document_at root.entry)
+        (root_node (tree_of root.entry))) }
+    ensures refused { IfErr result.0 (IsWalkError request.entry.budget.limit
+        (segments_patterns (filter_query (expression_of (plan_view request.entry.plan.now))))
+        (document_at root.entry)) }
+{
+    let Request {
+        plan,
+        finders,
+        budget,
+    } = request;
+    let filter = match plan::only_filter(&plan.segments) {
+        Some(filter) => filter,
+        None => return (Ok(false), finders),
+    };
+    let slots = DocumentPatternSlots::new();
+    let context = WalkContext {
+        alloc,
+        plan,
+        root,
+        limit: budget.limit,
+    };
+    let mut state = WalkState::new(alloc, PatternCache::new(finders, &slots), budget);
+    match context.begin(&mut state) {
+        Ok(_begun) => {
+            let held = context.filter_holds(filter, root, &mut state);
+            (held, state.into_finders())
+        }
+        Err(halt) => (Err(halt), state.into_finders()),
+    }
+}
+
+/// Whether a query is one filter, and that a test of a singular query.
+pub fn is_one_singular_test(query: &JpQuery) -> bool
+    ensures { result ≡ tests_singular (expression_of (query_view query.now)) }
+{
+    match only_filter(query) {
+        Some(filter) => is_singular_filter(filter),
+        None => false,
+    }
+}
+
+/// Whether an expression is such a test, `!` in front or none.
+fn is_singular_filter(filter: &Filter) -> bool
+    ensures { result ≡ tests_singular (filter_view filter.now) }
+{
+    match filter {
+        Filter::Atom(atom) => is_singular_atom(atom),
+        Filter::Or(_) => false,
+        Filter::And(_) => false,
+    }
+}
+
+fn is_singular_atom(atom: &FilterAtom) -> bool
+    ensures { result ≡ tests_singular (atom_view atom.now) }
+{
+    match atom {
+        FilterAtom::Test { expr, .. } => is_singular_test(expr),
+        FilterAtom::Filter { .. } => false,
+        FilterAtom::Comparison(_) => false,
+    }
+}
+
+/// Whether a test is a singular query.
+fn is_singular_test(test: &Test) -> bool
+    ensures { result ≡ typing.is_singular_test (test_view test.now) }
+{
+    match test {
+        Test::RelQuery(segments) => are_steps(segments),
+        Test::AbsQuery(query) => is_singular(query),
+        Test::Function(_) => false,
+    }
 }

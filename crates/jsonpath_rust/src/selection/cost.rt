@@ -1,18 +1,18 @@
 //! What work is spent for values: where a walk is limited, comparisons, functions and patterns cost what they look at.
 ghost use Rattle.std.specs.Prelude.{◌-◌, ◌≡◌, ◌≤◌, IfErr, IfOk, length, map, min, option_map};
-ghost use Rattle.jsonpath_rust.specs.Prelude.Documents.{Memory, operand_tree, side_tree, tree_of};
+ghost use Rattle.jsonpath_rust.specs.Prelude.Documents.{Memory, filter_value_tree, filter_ref_tree, tree_of};
 ghost use Rattle.jsonpath_rust.specs.Prelude.Selection.{compared_cost, cost, elements_cost, IsSpent, Limited, node_cost, pairs_cost, smaller_cost, text_bytes, valued};
 
 use crate::documents::args::Args;
-use crate::documents::halt::Walked;
+use crate::documents::filter_value::{FilterValue, FilterValueRef};
 use crate::documents::nodes::{WholeElements, WholeMembers};
-use crate::documents::operand::{Operand, Side};
 use crate::documents::queryable::Queryable;
+use crate::documents::walk_error::WalkResult;
 use crate::documents::whole::WholeRef;
-use crate::selection::budget::{Budget, Limit};
+use crate::selection::limits::{Budget, WorkLimit};
 use crate::selection::sink::Sink;
-use jsonpath_base::Extent;
-use jsonpath_base::engine::{Asked, Finders, Origin, StepRef, Way};
+use jsonpath_base::MatchKind;
+use jsonpath_base::engine::{CurrentPath, Origin, PatternCache, PatternKey, StepRef};
 use std::alloc::Global;
 
 /// How many bytes of a text are compared for one unit.
@@ -27,34 +27,38 @@ const STEPS: usize = 4;
 /// How many steps of a path are copied for one unit.
 const SPELLED: usize = 16;
 
-impl Limit {
+impl WorkLimit {
     /// What `length` costs: a unit for each byte of a text and for each member of an object, of the document or made by
     /// a custom function.
     #[inline(always)]
-    pub fn length_cost<T: Queryable>(self, alloc: Global, side: &Side<'_, '_, T>) -> Walked<usize>
+    pub fn length_cost<T: Queryable>(
+        self,
+        alloc: Global,
+        side: &FilterValueRef<'_, '_, T>,
+    ) -> WalkResult<usize>
         ensures memory { IfErr result (λ h. h ≡ Memory) }
     {
         match self {
-            Limit::Unlimited => Ok(0),
-            Limit::Limited => cost_of_length(alloc, side),
+            WorkLimit::Unlimited => Ok(0),
+            WorkLimit::Limited => cost_of_length(alloc, side),
         }
     }
 
-    /// What `match` or `search` costs: what it costs to read both texts, and to ask the pattern ([`Finders::cost`]).
+    /// What `match` or `search` costs: what it costs to read both texts, and to ask the pattern ([`PatternCache::cost`]).
     #[inline(always)]
     pub fn search_cost<T: Queryable>(
         self,
         alloc: Global,
-        finders: &Finders<'_, '_>,
-        sides: (&Operand<'_, '_, T>, &Operand<'_, '_, T>),
-        how: (Extent, Origin),
-    ) -> Walked<usize>
-        ensures text { IfOk result (λ n. self ≡ Limited → text_bytes (operand_tree sides.entry.0.now) ≤ n) }
+        finders: &PatternCache<'_, '_>,
+        sides: (&FilterValue<'_, '_, T>, &FilterValue<'_, '_, T>),
+        how: (MatchKind, Origin),
+    ) -> WalkResult<usize>
+        ensures text { IfOk result (λ n. self ≡ Limited → text_bytes (filter_value_tree sides.entry.0.now) ≤ n) }
         ensures memory { IfErr result (λ h. h ≡ Memory) }
     {
         match self {
-            Limit::Unlimited => Ok(0),
-            Limit::Limited => cost_of_search(alloc, finders, sides, how),
+            WorkLimit::Unlimited => Ok(0),
+            WorkLimit::Limited => cost_of_search(alloc, finders, sides, how),
         }
     }
 
@@ -64,16 +68,16 @@ impl Limit {
     pub fn comparison_cost<T: Queryable>(
         self,
         alloc: Global,
-        sides: (&Side<'_, '_, T>, &Side<'_, '_, T>),
+        sides: (&FilterValueRef<'_, '_, T>, &FilterValueRef<'_, '_, T>),
         most: usize,
-    ) -> Walked<usize>
+    ) -> WalkResult<usize>
         ensures cost { IfOk result (λ n. self ≡ Limited →
             n ≡ min (compared_cost (valued sides.entry.0.now) (valued sides.entry.1.now)) most) }
         ensures memory { IfErr result (λ h. h ≡ Memory) }
     {
         match self {
-            Limit::Unlimited => Ok(0),
-            Limit::Limited => match (value_in(sides.0), value_in(sides.1)) {
+            WorkLimit::Unlimited => Ok(0),
+            WorkLimit::Limited => match (value_in(sides.0), value_in(sides.1)) {
                 (Some(left), Some(right)) => smaller_size(alloc, left, right, most),
                 _ => Ok(most.min(1)),
             },
@@ -88,12 +92,12 @@ impl Limit {
         alloc: Global,
         args: &Args<'_, T>,
         most: usize,
-    ) -> Walked<usize>
+    ) -> WalkResult<usize>
         ensures memory { IfErr result (λ h. h ≡ Memory) }
     {
         match self {
-            Limit::Unlimited => Ok(0),
-            Limit::Limited => size_of_arguments(alloc, args, most),
+            WorkLimit::Unlimited => Ok(0),
+            WorkLimit::Limited => size_of_arguments(alloc, args, most),
         }
     }
 
@@ -103,20 +107,20 @@ impl Limit {
         alloc: Global,
         value: WholeRef<'_, T>,
         most: usize,
-    ) -> Walked<usize>
+    ) -> WalkResult<usize>
         ensures cost { IfOk result (λ n. self ≡ Limited → n ≡ min (cost (tree_of value.entry)) most) }
         ensures memory { IfErr result (λ h. h ≡ Memory) }
     {
         match self {
-            Limit::Unlimited => Ok(0),
-            Limit::Limited => size_within(alloc, value, most),
+            WorkLimit::Unlimited => Ok(0),
+            WorkLimit::Limited => size_within(alloc, value, most),
         }
     }
 }
 
 /// How many bytes the text has, if it is one.
-fn text_bytes<T: Queryable>(side: &Side<'_, '_, T>) -> usize
-    ensures { result ≡ text_bytes (side_tree side.now) }
+fn text_bytes<T: Queryable>(side: &FilterValueRef<'_, '_, T>) -> usize
+    ensures { result ≡ text_bytes (filter_ref_tree side.now) }
 {
     match side.as_text() {
         Some(text) => text.len(),
@@ -125,7 +129,7 @@ fn text_bytes<T: Queryable>(side: &Side<'_, '_, T>) -> usize
 }
 
 /// What it costs to compare a pattern with one that is kept: a unit for each byte, of one in the query for each few.
-fn pattern_cost<T: Queryable>(side: &Side<'_, '_, T>) -> usize {
+fn pattern_cost<T: Queryable>(side: &FilterValueRef<'_, '_, T>) -> usize {
     match value_in(side) {
         Some(_value) => text_bytes(side),
         None => text_bytes(side) / BYTES,
@@ -135,7 +139,10 @@ fn pattern_cost<T: Queryable>(side: &Side<'_, '_, T>) -> usize {
 /// How many bytes the text has, or how many members the object, if it is one of the document or one that a custom
 /// function made; else 0.
 #[inline(never)]
-fn cost_of_length<T: Queryable>(alloc: Global, side: &Side<'_, '_, T>) -> Walked<usize>
+fn cost_of_length<T: Queryable>(
+    alloc: Global,
+    side: &FilterValueRef<'_, '_, T>,
+) -> WalkResult<usize>
     ensures memory { IfErr result (λ h. h ≡ Memory) }
 {
     match value_in(side) {
@@ -152,15 +159,15 @@ impl Budget {
     #[inline(always)]
     pub fn spend_path<T: Queryable>(
         &mut self,
-        limit: Limit,
+        limit: WorkLimit,
         sink: &Sink<'_, T>,
-        way: &Way<'_>,
-    ) -> Walked<()>
+        current_path: &CurrentPath<'_>,
+    ) -> WalkResult<()>
         ensures refused { IfErr result (IsSpent limit) }
     {
         match limit {
-            Limit::Unlimited => Ok(()),
-            Limit::Limited => self.spend(limit, path_cost(sink, way)),
+            WorkLimit::Unlimited => Ok(()),
+            WorkLimit::Limited => self.spend(limit, path_cost(sink, current_path)),
         }
     }
 }
@@ -168,31 +175,31 @@ impl Budget {
 /// What it costs to give a node to a sink. Where that keeps a path or a location, it is a unit for each few bytes of
 /// names in it, and for each few steps. Where it marks a location, it is a unit for each step that is not settled and for
 /// each few bytes of its name, and what a copy costs that is put there.
-fn path_cost<T: Queryable>(sink: &Sink<'_, T>, way: &Way<'_>) -> usize
-    ensures { node_cost sink.now (length way.now.steps.items) ≤ result }
+fn path_cost<T: Queryable>(sink: &Sink<'_, T>, current_path: &CurrentPath<'_>) -> usize
+    ensures { node_cost sink.now (length current_path.now.steps.items) ≤ result }
 {
-    let steps = way.steps.len();
+    let steps = current_path.steps.len();
     match sink {
-        Sink::Nodes(_) => names_cost(way, steps / SPELLED),
-        Sink::Paths(_) => names_cost(way, steps / SPELLED),
-        Sink::Few(_) => names_cost(way, steps / SPELLED),
-        Sink::Locations(_) => names_cost(way, steps / STEPS),
-        Sink::Removal(_, copy) => way.unsettled_size().saturating_add(*copy),
+        Sink::Nodes(_) => names_cost(current_path, steps / SPELLED),
+        Sink::Paths(_) => names_cost(current_path, steps / SPELLED),
+        Sink::Few(_) => names_cost(current_path, steps / SPELLED),
+        Sink::Locations(_) => names_cost(current_path, steps / STEPS),
+        Sink::LocationSet(_, copy) => current_path.unshared_size().saturating_add(*copy),
         _ => 0,
     }
 }
 
 /// What the names on the way cost, and what their steps do beside.
-fn names_cost(way: &Way<'_>, steps: usize) -> usize
+fn names_cost(current_path: &CurrentPath<'_>, steps: usize) -> usize
     ensures { steps ≤ result }
 {
-    (name_bytes(way) / COPIED).saturating_add(steps)
+    (name_bytes(current_path) / COPIED).saturating_add(steps)
 }
 
 /// How many bytes the names on the way have.
-fn name_bytes(way: &Way<'_>) -> usize {
+fn name_bytes(current_path: &CurrentPath<'_>) -> usize {
     let mut bytes: usize = 0;
-    for step in &way.steps {
+    for step in &current_path.steps {
         if let StepRef::Name(name) = step {
             bytes = bytes.saturating_add(name.len());
         }
@@ -204,11 +211,11 @@ fn name_bytes(way: &Way<'_>) -> usize {
 /// what asking it costs.
 fn cost_of_search<T: Queryable>(
     alloc: Global,
-    finders: &Finders<'_, '_>,
-    sides: (&Operand<'_, '_, T>, &Operand<'_, '_, T>),
-    how: (Extent, Origin),
-) -> Walked<usize>
-    ensures text { IfOk result (λ n. text_bytes (operand_tree sides.entry.0.now) ≤ n) }
+    finders: &PatternCache<'_, '_>,
+    sides: (&FilterValue<'_, '_, T>, &FilterValue<'_, '_, T>),
+    how: (MatchKind, Origin),
+) -> WalkResult<usize>
+    ensures text { IfOk result (λ n. text_bytes (filter_value_tree sides.entry.0.now) ≤ n) }
     ensures memory { IfErr result (λ h. h ≡ Memory) }
 {
     let (text, pattern) = (sides.0.as_side(), sides.1.as_side());
@@ -217,17 +224,17 @@ fn cost_of_search<T: Queryable>(
         return Ok(read);
     };
     let (extent, origin) = how;
-    let asked = Asked { pattern, extent };
+    let asked = PatternKey { pattern, extent };
     let cost = finders.cost(alloc, text, asked, origin)?;
     Ok(cost.saturating_add(read))
 }
 
 /// The value, if it is one of the document or one that a custom function made.
-fn value_in<'k, T: Queryable>(side: &Side<'k, '_, T>) -> Option<WholeRef<'k, T>>
+fn value_in<'k, T: Queryable>(side: &FilterValueRef<'k, '_, T>) -> Option<WholeRef<'k, T>>
     ensures { option_map tree_of result ≡ valued side.now }
 {
     match side {
-        Side::Lent(value) => Some(*value),
+        FilterValueRef::Borrowed(value) => Some(*value),
         _ => None,
     }
 }
@@ -240,7 +247,7 @@ fn smaller_size<T: Queryable>(
     left: WholeRef<'_, T>,
     right: WholeRef<'_, T>,
     most: usize,
-) -> Walked<usize>
+) -> WalkResult<usize>
     ensures size { IfOk result (λ n. n ≡ min (smaller_cost (tree_of left.entry) (tree_of right.entry)) most) }
     ensures memory { IfErr result (λ h. h ≡ Memory) }
 {
@@ -256,7 +263,7 @@ fn bound_of_smaller<T: Queryable>(
     left: WholeRef<'_, T>,
     right: WholeRef<'_, T>,
     most: usize,
-) -> Walked<usize>
+) -> WalkResult<usize>
     ensures bound { IfOk result (λ n. min (smaller_cost (tree_of left.entry) (tree_of right.entry)) most ≤ n) }
     ensures within { IfOk result (λ n. n ≤ most) }
     ensures memory { IfErr result (λ h. h ≡ Memory) }
@@ -275,7 +282,11 @@ fn bound_of_smaller<T: Queryable>(
 }
 
 /// The product of the sizes of these values, or at least `most`, where no more of them is looked at.
-fn size_of_arguments<T: Queryable>(alloc: Global, args: &Args<'_, T>, most: usize) -> Walked<usize>
+fn size_of_arguments<T: Queryable>(
+    alloc: Global,
+    args: &Args<'_, T>,
+    most: usize,
+) -> WalkResult<usize>
     ensures memory { IfErr result (λ h. h ≡ Memory) }
 {
     let mut product: usize = 1;
@@ -292,7 +303,11 @@ fn size_of_arguments<T: Queryable>(alloc: Global, args: &Args<'_, T>, most: usiz
 /// The size of a value, or `most` where that is less: one for each value in it, and for each few bytes of its texts and
 /// names. It is not counted further than that, and where `most` is 0 or 1 the value is not looked at.
 #[cycle(size)]
-fn size_within<T: Queryable>(alloc: Global, value: WholeRef<'_, T>, most: usize) -> Walked<usize>
+fn size_within<T: Queryable>(
+    alloc: Global,
+    value: WholeRef<'_, T>,
+    most: usize,
+) -> WalkResult<usize>
     ensures size { IfOk result (λ n. n ≡ min (cost (tree_of value.entry)) most) }
     ensures memory { IfErr result (λ h. h ≡ Memory) }
 {
@@ -306,7 +321,11 @@ fn size_within<T: Queryable>(alloc: Global, value: WholeRef<'_, T>, most: usize)
 /// The size of a value without the one for itself, or `most` where that is less. Where `most` is 0 the value is not
 /// looked at, and where an object has so many members, they are not listed.
 #[cycle(size)]
-fn inside_size<T: Queryable>(alloc: Global, value: WholeRef<'_, T>, most: usize) -> Walked<usize>
+fn inside_size<T: Queryable>(
+    alloc: Global,
+    value: WholeRef<'_, T>,
+    most: usize,
+) -> WalkResult<usize>
     ensures size { IfOk result (λ n. n ≡ min (cost (tree_of value.entry) - 1) most) }
     ensures memory { IfErr result (λ h. h ≡ Memory) }
 {
@@ -339,7 +358,7 @@ fn elements_size<T: Queryable>(
     alloc: Global,
     items: &WholeElements<'_, T>,
     most: usize,
-) -> Walked<usize>
+) -> WalkResult<usize>
     ensures size { IfOk result (λ n. n ≡ min (elements_cost (map T.tree items.now.list.now)) most) }
     ensures memory { IfErr result (λ h. h ≡ Memory) }
 {
@@ -361,7 +380,7 @@ fn members_size<T: Queryable>(
     alloc: Global,
     members: &WholeMembers<'_, '_, T>,
     most: usize,
-) -> Walked<usize>
+) -> WalkResult<usize>
     ensures size { IfOk result (λ n. n ≡ min (pairs_cost (map (λ m. (m.0.now, T.tree m.1.now)) members.now.list.now)) most) }
     ensures memory { IfErr result (λ h. h ≡ Memory) }
 {

@@ -1,17 +1,24 @@
 //! Whether filters hold (RFC 9535, 2.3.5).
-ghost use Rattle.std.specs.Prelude.{◌++◌, ◌≡◌, IfOk};
-ghost use Rattle.jsonpath_base.specs.Prelude.Documents.{argued, argument_patterns, as_truth, compares, each_holds, filter_patterns, filters_patterns, holds, operator_view, some_holds, value_of};
-ghost use Rattle.jsonpath_rust.specs.Prelude.Selection.{Any, Comes, filter_view, filters_meant, here, kept_of, Sole, part_view, StandsAt};
+ghost use Rattle.jsonpath_base.specs.Prelude.Documents.{Document, Node, answer, argued, argument_patterns, as_truth, children, compares, each_holds, filter_patterns, filters_patterns, holds, operator_view, relative, root_node, some_holds, step_view, stepped, test_argument, value_at, value_of};
+ghost use Rattle.jsonpath_base.specs.documents.Functions as functions;
+ghost use Rattle.jsonpath_base.specs.documents.inner.Singular as singular;
+ghost use Rattle.jsonpath_rust.specs.Prelude.Documents.{filter_ref_tree, tree_of};
+ghost use Rattle.jsonpath_rust.specs.Prelude.Selection.{Constants, Count, Demand, EndsProperly, Exists, IsCacheCorrect, IsPositionedAt, IsWalkError, Limited, Single, argument_at, at_current, call_view, children_query, constants_of, document, expr_view, filter_view, filters_meant, selected_from, steps_query};
+ghost use Rattle.std.specs.Prelude.{IfErr, IfOk, IfSome, Some, [], length, map, option_map, ◌++◌, ◌+◌, ◌/◌, ◌≡◌};
 
-use crate::documents::halt::Walked;
+use crate::documents::comparison::compares;
+use crate::documents::filter_value::{FilterValueRef, Scalar, count_scalar, length_of, scalar_of};
 use crate::documents::queryable::Queryable;
+use crate::documents::walk_error::WalkResult;
 use crate::documents::whole::WholeRef;
-use crate::selection::plan::{Comparison, Filter, Part};
-use crate::selection::sink::Wanted;
-use crate::selection::trail::Trail;
-use crate::selection::walk::Task;
+use crate::selection::constants::{Cache, CachedResult};
+use crate::selection::limits::Budget;
+use crate::selection::plan::{Call, Comparison, Expr, Filter};
+use crate::selection::sink::Demand;
+use crate::selection::walk::{WalkContext, WalkState};
+use jsonpath_parser::model::{Operator, SingularQuerySegment};
 
-impl<'a: 's, 's, T: Queryable> Task<'a, 's, T> {
+impl<'a: 's, 's, T: Queryable> WalkContext<'a, 's, T> {
     /// Whether a filter holds at a value, to which the way leads. A comparison is asked at once, without `filter_holds`
     /// between.
     #[cycle(walk)]
@@ -21,16 +28,16 @@ impl<'a: 's, 's, T: Queryable> Task<'a, 's, T> {
         &self,
         filter: &'s Filter,
         at: WholeRef<'a, T>,
-        trail: &mut Trail<'a, 's, '_, T>,
-    ) -> Walked<bool>
-        requires { StandsAt self.now at trail.old }
-        ensures holds { IfOk result (λ b. b ≡ here self.now trail.old at.entry (holds (filter_view (kept_of self.now) filter.now))) }
-        ensures comes { Comes self.now trail.old trail.new (filter_patterns (filter_view (kept_of self.now) filter.now)) result }
+        state: &mut WalkState<'a, 's, '_, T>,
+    ) -> WalkResult<bool>
+        requires { IsPositionedAt self.now at state.old }
+        ensures holds { IfOk result (λ b. b ≡ at_current self.now state.old at.entry (holds (filter_view (constants_of self.now) filter.now))) }
+        ensures comes { EndsProperly self.now state.old state.new (filter_patterns (filter_view (constants_of self.now) filter.now)) result }
     {
         if let Filter::Comparison(operator, left, right) = filter {
-            return self.comparison_holds((*operator, left, right), at, trail);
+            return self.comparison_holds((*operator, left, right), at, state);
         }
-        self.filter_holds(filter, at, trail)
+        self.filter_holds(filter, at, state)
     }
 
     /// Whether a filter holds at a value, to which the way leads; `is_met` is the faster way to ask a comparison.
@@ -40,23 +47,23 @@ impl<'a: 's, 's, T: Queryable> Task<'a, 's, T> {
         &self,
         filter: &'s Filter,
         at: WholeRef<'a, T>,
-        trail: &mut Trail<'a, 's, '_, T>,
-    ) -> Walked<bool>
-        requires { StandsAt self.now at trail.old }
-        ensures holds { IfOk result (λ b. b ≡ here self.now trail.old at.entry (holds (filter_view (kept_of self.now) filter.now))) }
-        ensures comes { Comes self.now trail.old trail.new (filter_patterns (filter_view (kept_of self.now) filter.now)) result }
+        state: &mut WalkState<'a, 's, '_, T>,
+    ) -> WalkResult<bool>
+        requires { IsPositionedAt self.now at state.old }
+        ensures holds { IfOk result (λ b. b ≡ at_current self.now state.old at.entry (holds (filter_view (constants_of self.now) filter.now))) }
+        ensures comes { EndsProperly self.now state.old state.new (filter_patterns (filter_view (constants_of self.now) filter.now)) result }
     {
         match filter {
-            Filter::Or(parts) => self.some_holds(parts, at, trail),
-            Filter::And(parts) => self.each_holds(parts, at, trail),
-            Filter::Group { expr, not } => Ok(self.filter_holds(expr, at, trail)? != *not),
-            Filter::Test { part, not } => Ok(self.tests_true(part, at, trail)? != *not),
+            Filter::Or(parts) => self.some_holds(parts, at, state),
+            Filter::And(parts) => self.each_holds(parts, at, state),
+            Filter::Group { expr, not } => Ok(self.filter_holds(expr, at, state)? != *not),
+            Filter::Test { part, not } => Ok(self.tests_true(part, at, state)? != *not),
             Filter::Comparison(operator, left, right) => {
-                self.comparison_holds((*operator, left, right), at, trail)
+                self.comparison_holds((*operator, left, right), at, state)
             }
             Filter::Constant(number) => {
-                if self.keep(*number, Wanted::Any, trail)? {
-                    Ok(trail.cache.is_true(*number))
+                if self.ensure_cached(*number, Demand::Exists, state)? {
+                    Ok(state.cache.is_true(*number))
                 } else {
                     Ok(true)
                 }
@@ -70,15 +77,15 @@ impl<'a: 's, 's, T: Queryable> Task<'a, 's, T> {
         &self,
         parts: &'s [Filter],
         at: WholeRef<'a, T>,
-        trail: &mut Trail<'a, 's, '_, T>,
-    ) -> Walked<bool>
-        requires { StandsAt self.now at trail.old }
-        ensures holds { IfOk result (λ b. b ≡ here self.now trail.old at.entry (some_holds (filters_meant (kept_of self.now) parts.now))) }
-        ensures comes { Comes self.now trail.old trail.new (filters_patterns (filters_meant (kept_of self.now) parts.now)) result }
+        state: &mut WalkState<'a, 's, '_, T>,
+    ) -> WalkResult<bool>
+        requires { IsPositionedAt self.now at state.old }
+        ensures holds { IfOk result (λ b. b ≡ at_current self.now state.old at.entry (some_holds (filters_meant (constants_of self.now) parts.now))) }
+        ensures comes { EndsProperly self.now state.old state.new (filters_patterns (filters_meant (constants_of self.now) parts.now)) result }
     {
-        trail.budget.spend(self.limit, parts.len())?;
+        state.budget.spend(self.limit, parts.len())?;
         for part in parts {
-            if self.filter_holds(part, at, trail)? {
+            if self.filter_holds(part, at, state)? {
                 return Ok(true);
             }
         }
@@ -91,15 +98,15 @@ impl<'a: 's, 's, T: Queryable> Task<'a, 's, T> {
         &self,
         parts: &'s [Filter],
         at: WholeRef<'a, T>,
-        trail: &mut Trail<'a, 's, '_, T>,
-    ) -> Walked<bool>
-        requires { StandsAt self.now at trail.old }
-        ensures holds { IfOk result (λ b. b ≡ here self.now trail.old at.entry (each_holds (filters_meant (kept_of self.now) parts.now))) }
-        ensures comes { Comes self.now trail.old trail.new (filters_patterns (filters_meant (kept_of self.now) parts.now)) result }
+        state: &mut WalkState<'a, 's, '_, T>,
+    ) -> WalkResult<bool>
+        requires { IsPositionedAt self.now at state.old }
+        ensures holds { IfOk result (λ b. b ≡ at_current self.now state.old at.entry (each_holds (filters_meant (constants_of self.now) parts.now))) }
+        ensures comes { EndsProperly self.now state.old state.new (filters_patterns (filters_meant (constants_of self.now) parts.now)) result }
     {
-        trail.budget.spend(self.limit, parts.len())?;
+        state.budget.spend(self.limit, parts.len())?;
         for part in parts {
-            if !self.filter_holds(part, at, trail)? {
+            if !self.filter_holds(part, at, state)? {
                 return Ok(false);
             }
         }
@@ -113,30 +120,30 @@ impl<'a: 's, 's, T: Queryable> Task<'a, 's, T> {
     #[inline(always)]
     fn tests_true(
         &self,
-        part: &'s Part,
+        part: &'s Expr,
         at: WholeRef<'a, T>,
-        trail: &mut Trail<'a, 's, '_, T>,
-    ) -> Walked<bool>
-        requires { StandsAt self.now at trail.old }
+        state: &mut WalkState<'a, 's, '_, T>,
+    ) -> WalkResult<bool>
+        requires { IsPositionedAt self.now at state.old }
         ensures holds { IfOk result (λ b. b
-            ≡ as_truth (here self.now trail.old at.entry (argued (part_view (kept_of self.now) part.now Any)))) }
-        ensures comes { Comes self.now trail.old trail.new (argument_patterns (part_view (kept_of self.now) part.now Any)) result }
+            ≡ as_truth (at_current self.now state.old at.entry (argued (expr_view (constants_of self.now) part.now Exists)))) }
+        ensures comes { EndsProperly self.now state.old state.new (argument_patterns (expr_view (constants_of self.now) part.now Exists)) result }
     {
         match part {
-            Part::Lookup(steps) => {
-                let found = self.look_up(steps, at, &mut trail.budget)?;
+            Expr::Lookup(steps) => {
+                let found = self.look_up(steps, at, &mut state.budget)?;
                 Ok(found.is_some())
             }
-            Part::Children(steps) => {
-                let count = self.count_children(steps, at, &mut trail.budget)?;
+            Expr::Children(steps) => {
+                let count = self.count_children(steps, at, &mut state.budget)?;
                 Ok(count > 0)
             }
-            Part::Walk(segments) => {
-                let given = self.gather(segments, Wanted::Any, at, trail)?;
+            Expr::Walk(segments) => {
+                let given = self.gather(segments, Demand::Exists, at, state)?;
                 Ok(given.into_value().is_true())
             }
-            Part::Call(call) => Ok(self.answer(call, at, trail)?.is_true()),
-            _ => Ok(self.value(part, Wanted::Any, at, trail)?.is_true()),
+            Expr::Call(call) => Ok(self.answer(call, at, state)?.is_true()),
+            _ => Ok(self.value(part, Demand::Exists, at, state)?.is_true()),
         }
     }
 
@@ -147,47 +154,366 @@ impl<'a: 's, 's, T: Queryable> Task<'a, 's, T> {
         &self,
         comparison: Comparison<'s>,
         at: WholeRef<'a, T>,
-        trail: &mut Trail<'a, 's, '_, T>,
-    ) -> Walked<bool>
-        requires { StandsAt self.now at trail.old }
+        state: &mut WalkState<'a, 's, '_, T>,
+    ) -> WalkResult<bool>
+        requires { IsPositionedAt self.now at state.old }
         ensures holds { IfOk result (λ b. b ≡ compares (operator_view comparison.entry.0)
-            (here self.now trail.old at.entry (value_of (part_view (kept_of self.now) comparison.entry.1.now Sole)))
-            (here self.now trail.old at.entry (value_of (part_view (kept_of self.now) comparison.entry.2.now Sole)))) }
-        ensures comes { Comes self.now trail.old trail.new
-            (argument_patterns (part_view (kept_of self.now) comparison.entry.1.now Sole)
-            ++ argument_patterns (part_view (kept_of self.now) comparison.entry.2.now Sole)) result }
+            (at_current self.now state.old at.entry (value_of (expr_view (constants_of self.now) comparison.entry.1.now Single)))
+            (at_current self.now state.old at.entry (value_of (expr_view (constants_of self.now) comparison.entry.2.now Single)))) }
+        ensures comes { EndsProperly self.now state.old state.new
+            (argument_patterns (expr_view (constants_of self.now) comparison.entry.1.now Single)
+            ++ argument_patterns (expr_view (constants_of self.now) comparison.entry.2.now Single)) result }
     {
-        if let Some(held) = self.lent_compare(comparison, at, &trail.cache, &mut trail.budget)? {
+        if let Some(held) = self.compare_borrowed(
+            comparison,
+            at,
+            &state.cache,
+            &mut state.budget,
+        )? {
             return Ok(held);
         }
-        self.walked_compare(comparison, at, trail)
+        self.compare_evaluated(comparison, at, state)
     }
 
     /// The same, where a side is not at hand.
     #[cycle(walk)]
     #[inline(never)]
-    fn walked_compare(
+    fn compare_evaluated(
         &self,
         comparison: Comparison<'s>,
         at: WholeRef<'a, T>,
-        trail: &mut Trail<'a, 's, '_, T>,
-    ) -> Walked<bool>
-        requires { StandsAt self.now at trail.old }
+        state: &mut WalkState<'a, 's, '_, T>,
+    ) -> WalkResult<bool>
+        requires { IsPositionedAt self.now at state.old }
         ensures holds { IfOk result (λ b. b ≡ compares (operator_view comparison.entry.0)
-            (here self.now trail.old at.entry (value_of (part_view (kept_of self.now) comparison.entry.1.now Sole)))
-            (here self.now trail.old at.entry (value_of (part_view (kept_of self.now) comparison.entry.2.now Sole)))) }
-        ensures comes { Comes self.now trail.old trail.new
-            (argument_patterns (part_view (kept_of self.now) comparison.entry.1.now Sole)
-            ++ argument_patterns (part_view (kept_of self.now) comparison.entry.2.now Sole)) result }
+            (at_current self.now state.old at.entry (value_of (expr_view (constants_of self.now) comparison.entry.1.now Single)))
+            (at_current self.now state.old at.entry (value_of (expr_view (constants_of self.now) comparison.entry.2.now Single)))) }
+        ensures comes { EndsProperly self.now state.old state.new
+            (argument_patterns (expr_view (constants_of self.now) comparison.entry.1.now Single)
+            ++ argument_patterns (expr_view (constants_of self.now) comparison.entry.2.now Single)) result }
     {
-        let left = self.value(comparison.1, Wanted::Sole, at, trail)?;
-        let right = self.value(comparison.2, Wanted::Sole, at, trail)?;
-        let held = self.paid_compare(
+        let left = self.value(comparison.1, Demand::Single, at, state)?;
+        let right = self.value(comparison.2, Demand::Single, at, state)?;
+        let held = self.compare_charged(
             comparison.0,
             left.as_side(),
             right.as_side(),
-            &mut trail.budget,
+            &mut state.budget,
         )?;
         Ok(held)
+    }
+}
+
+impl<'a: 's, 's, T: Queryable> WalkContext<'a, 's, T> {
+    /// Whether a comparison holds at a value; None where one of its sides is not at hand.
+    #[inline(always)]
+    pub fn compare_borrowed(
+        &self,
+        comparison: Comparison<'s>,
+        at: WholeRef<'a, T>,
+        cache: &Cache<'a, 's, T>,
+        budget: &mut Budget,
+    ) -> WalkResult<Option<bool>>
+        requires { IsCacheCorrect self.now cache.now }
+        ensures holds { (n : Node) → n.tree ≡ tree_of at.entry →
+            IfOk result (λ o. IfSome o (λ b. b ≡ compares (operator_view comparison.entry.0)
+            (value_of (expr_view (constants_of self.now) comparison.entry.1.now Single) (document self.now) n)
+            (value_of (expr_view (constants_of self.now) comparison.entry.2.now Single) (document self.now) n))) }
+        ensures halts { IfErr result (IsWalkError self.now.limit [] (document self.now)) }
+    {
+        // The right side is asked first, at no cost: the left one is paid for only where both are.
+        if !is_at_hand(comparison.2, cache) {
+            return Ok(None);
+        }
+        let Some(left) = self.borrowed_value(comparison.1, at, cache, budget)? else {
+            return Ok(None);
+        };
+        let Some(right) = self.borrowed_value(comparison.2, at, cache, budget)? else {
+            return Ok(None);
+        };
+        let held = self.compare_charged(comparison.0, left, right, budget)?;
+        Ok(Some(held))
+    }
+
+    /// Whether the operator holds of these sides. What that costs is spent first.
+    #[inline(always)]
+    pub fn compare_charged<'k>(
+        &self,
+        operator: Operator,
+        left: FilterValueRef<'k, 's, T>,
+        right: FilterValueRef<'k, 's, T>,
+        budget: &mut Budget,
+    ) -> WalkResult<bool>
+        ensures holds { IfOk result (λ b. b ≡ compares (operator_view operator) (filter_ref_tree left.entry) (filter_ref_tree right.entry)) }
+        ensures halts { IfErr result (IsWalkError self.now.limit [] (document self.now)) }
+    {
+        let most = budget.left().saturating_add(1);
+        let cost = self
+            .limit
+            .comparison_cost(self.alloc, (&left, &right), most)?;
+        budget.spend(self.limit, cost)?;
+        Ok(compares(operator, &left, &right))
+    }
+
+    /// The value of a part; None where it is not at hand.
+    #[inline(always)]
+    fn borrowed_value<'k>(
+        &self,
+        part: &'s Expr,
+        at: WholeRef<'k, T>,
+        cache: &'k Cache<'a, 's, T>,
+        budget: &mut Budget,
+    ) -> WalkResult<Option<FilterValueRef<'k, 's, T>>>
+        requires { IsCacheCorrect self.now cache.now }
+        ensures value { (n : Node) → n.tree ≡ tree_of at.entry →
+            IfOk result (λ o. IfSome o (λ s. filter_ref_tree s
+            ≡ value_of (expr_view (constants_of self.now) part.now Single) (document self.now) n)) }
+        ensures halts { IfErr result (IsWalkError self.now.limit [] (document self.now)) }
+    {
+        match part {
+            Expr::Literal(literal) => Ok(Some(FilterValueRef::Plain(scalar_of(literal)))),
+            Expr::Pattern(text, _number) => Ok(Some(FilterValueRef::Plain(Scalar::Text(text)))),
+            Expr::Lookup(steps) => {
+                let found = self.look_up(steps, at, budget)?;
+                Ok(Some(FilterValueRef::from_ref(found)))
+            }
+            Expr::Call(call) => self.direct_answer(call, at, budget),
+            Expr::Constant(number) => Ok(self.cached_ref(*number, cache)),
+            _ => Ok(None),
+        }
+    }
+
+    /// The value of the constant of this number; None where it is not worked out yet.
+    #[inline(always)]
+    fn cached_ref<'k>(
+        &self,
+        number: usize,
+        cache: &'k Cache<'a, 's, T>,
+    ) -> Option<FilterValueRef<'k, 's, T>>
+        requires { IsCacheCorrect self.now cache.now }
+        ensures { (n : Node) → IfSome result (λ s. filter_ref_tree s ≡ value_of (argument_at (constants_of self.now) Single number) (document self.now) n) }
+    {
+        let _constant = self.plan.constant(number, Demand::Single)?;
+        match cache.get(number) {
+            Some(CachedResult::Value(value)) => Some(value.as_side()),
+            _ => None,
+        }
+    }
+}
+
+/// Whether a part is at hand: a literal, a look-up, a constant that is worked out, a direct call.
+#[inline(always)]
+fn is_at_hand<T: Queryable>(part: &Expr, cache: &Cache<'_, '_, T>) -> bool {
+    match part {
+        Expr::Literal(_) | Expr::Pattern(_, _) | Expr::Lookup(_) => true,
+        Expr::Constant(number) => cache.get(*number).is_some(),
+        Expr::Call(call) => is_direct(call),
+        _ => false,
+    }
+}
+
+/// How many steps are taken for one unit.
+const STEPS: usize = 16;
+
+impl<'a: 's, 's, T: Queryable> WalkContext<'a, 's, T> {
+    /// The value that these steps lead to, for a unit for each few of them.
+    #[inline(always)]
+    pub fn look_up<'k>(
+        &self,
+        steps: &[SingularQuerySegment],
+        at: WholeRef<'k, T>,
+        budget: &mut Budget,
+    ) -> WalkResult<Option<WholeRef<'k, T>>>
+        ensures value { IfOk result (λ o. option_map tree_of o ≡ value_at (map step_view steps.now) (tree_of at.entry)) }
+        ensures paid { IfOk result (λ o. self.now.limit ≡ Limited →
+            budget.new.left + length steps.now / 16 ≡ budget.old.left) }
+        ensures halts { IfErr result (IsWalkError self.now.limit [] (document self.now)) }
+    {
+        budget.spend_some(self.limit, steps.len() / STEPS)?;
+        Ok(value_at(steps, at))
+    }
+}
+
+/// The value that these steps lead to.
+fn value_at<'a, T: Queryable>(
+    steps: &[SingularQuerySegment],
+    at: WholeRef<'a, T>,
+) -> Option<WholeRef<'a, T>>
+    ensures { option_map tree_of result ≡ value_at (map step_view steps.now) (tree_of at.entry) }
+{
+    let (first, rest) = match steps.split_first() {
+        Some((first, rest)) => (first, rest),
+        None => return Some(at),
+    };
+    let child = stepped(first, at)?;
+    if rest.is_empty() {
+        return Some(child);
+    }
+    value_at(rest, child)
+}
+
+/// The value that a step leads to.
+#[inline(always)]
+fn stepped<'a, T: Queryable>(
+    step: &SingularQuerySegment,
+    at: WholeRef<'a, T>,
+) -> Option<WholeRef<'a, T>>
+    ensures { option_map tree_of result ≡ stepped (step_view step.now) (tree_of at.entry) }
+{
+    match step {
+        SingularQuerySegment::Name(name) => at.member(name),
+        SingularQuerySegment::Index(index) => match at.element(*index) {
+            Some((_position, child)) => Some(child),
+            None => None,
+        },
+    }
+}
+
+impl<'a: 's, 's, T: Queryable> WalkContext<'a, 's, T> {
+    /// How many children the value that these steps lead to has; 0 where there is no such value. Each member of an
+    /// object costs a unit, for the type may have to list them all.
+    pub fn count_children(
+        &self,
+        steps: &[SingularQuerySegment],
+        at: WholeRef<'_, T>,
+        budget: &mut Budget,
+    ) -> WalkResult<usize>
+        ensures count { (d : Document) (n : Node) → n.tree ≡ tree_of at.entry →
+            IfOk result (λ k. k ≡ length (selected_from (children_query (map step_view steps.now)) d n)) }
+        ensures halts { IfErr result (IsWalkError self.now.limit [] (document self.now)) }
+    {
+        match self.look_up(steps, at, budget)? {
+            Some(parent) => self.child_count(parent, budget),
+            None => Ok(0),
+        }
+    }
+
+    /// How many children a value has.
+    fn child_count(&self, parent: WholeRef<'_, T>, budget: &mut Budget) -> WalkResult<usize>
+        ensures count { IfOk result (λ k. k ≡ length (children (root_node (tree_of parent.entry)))) }
+        ensures halts { IfErr result (IsWalkError self.now.limit [] (document self.now)) }
+    {
+        if let Some(items) = parent.elements() {
+            return Ok(items.len());
+        }
+        match parent.member_count(self.alloc)? {
+            Some(count) => {
+                budget.spend(self.limit, count)?;
+                Ok(count)
+            }
+            None => Ok(0),
+        }
+    }
+}
+
+impl<'a: 's, 's, T: Queryable> WalkContext<'a, 's, T> {
+    /// What a call returns that [`is_direct`]; None of any other.
+    #[inline(always)]
+    pub fn direct_answer<'k>(
+        &self,
+        call: &Call,
+        at: WholeRef<'k, T>,
+        budget: &mut Budget,
+    ) -> WalkResult<Option<FilterValueRef<'k, 's, T>>>
+        ensures value { (constants : Constants) (d : Document) (n : Node) → n.tree ≡ tree_of at.entry →
+            IfOk result (λ o. IfSome o (λ s. filter_ref_tree s ≡ answer (call_view constants call.now) d n)) }
+        ensures halts { IfErr result (IsWalkError self.now.limit [] (document self.now)) }
+    {
+        match call {
+            Call::Length(arg) => match lookup_in(arg) {
+                Some(steps) => Ok(Some(self.direct_length(steps, at, budget)?)),
+                None => Ok(None),
+            },
+            Call::Value(arg) => match lookup_in(arg) {
+                Some(steps) => {
+                    let found = self.look_up(steps, at, budget)?;
+                    Ok(Some(FilterValueRef::from_ref(found)))
+                }
+                None => Ok(None),
+            },
+            Call::Count(arg) => match children_in(arg) {
+                Some(steps) => {
+                    let count = self.count_children(steps, at, budget)?;
+                    Ok(Some(FilterValueRef::Plain(count_scalar(count))))
+                }
+                None => Ok(None),
+            },
+            _ => Ok(None),
+        }
+    }
+
+    /// The length of the value that these steps lead to (2.4.4).
+    #[inline(always)]
+    fn direct_length<'k>(
+        &self,
+        steps: &[SingularQuerySegment],
+        at: WholeRef<'_, T>,
+        budget: &mut Budget,
+    ) -> WalkResult<FilterValueRef<'k, 's, T>>
+        ensures value { IfOk result (λ s. filter_ref_tree s
+            ≡ functions.length_of (singular.value_at (map step_view steps.now) (tree_of at.entry))) }
+        ensures halts { IfErr result (IsWalkError self.now.limit [] (document self.now)) }
+    {
+        match self.look_up(steps, at, budget)? {
+            Some(value) => self.length_at(value, budget),
+            None => Ok(FilterValueRef::Absent),
+        }
+    }
+
+    /// The length of a value (2.4.4).
+    #[inline(always)]
+    fn length_at<'k>(
+        &self,
+        value: WholeRef<'_, T>,
+        budget: &mut Budget,
+    ) -> WalkResult<FilterValueRef<'k, 's, T>>
+        ensures value { IfOk result (λ s. filter_ref_tree s ≡ functions.length_of (Some (tree_of value.entry))) }
+        ensures halts { IfErr result (IsWalkError self.now.limit [] (document self.now)) }
+    {
+        let cost = self
+            .limit
+            .length_cost(self.alloc, &FilterValueRef::Borrowed(value))?;
+        budget.spend(self.limit, cost)?;
+        match length_of(self.alloc, value)? {
+            Some(length) => Ok(FilterValueRef::Plain(count_scalar(length))),
+            None => Ok(FilterValueRef::Absent),
+        }
+    }
+}
+
+/// Whether a call is `length` or `value` of a node that is looked up, or `count` of its children.
+#[inline(always)]
+pub fn is_direct(call: &Call) -> bool {
+    match call {
+        Call::Length(arg) => lookup_in(arg).is_some(),
+        Call::Value(arg) => lookup_in(arg).is_some(),
+        Call::Count(arg) => children_in(arg).is_some(),
+        _ => false,
+    }
+}
+
+/// The steps of the query that a part is, if that is a look-up.
+#[inline(always)]
+pub fn lookup_in(part: &Expr) -> Option<&[SingularQuerySegment]>
+    ensures { (constants : Constants) (w : Demand) →
+        IfSome result (λ ss. expr_view constants part.now w
+        ≡ test_argument (relative (steps_query (map step_view ss.now)))) }
+{
+    match part {
+        Expr::Lookup(steps) => Some(steps),
+        _ => None,
+    }
+}
+
+/// The steps to the value whose children a part is, if it is these, where they are counted.
+#[inline(always)]
+fn children_in(part: &Expr) -> Option<&[SingularQuerySegment]>
+    ensures { (constants : Constants) →
+        IfSome result (λ ss. expr_view constants part.now Count
+        ≡ test_argument (relative (children_query (map step_view ss.now)))) }
+{
+    match part {
+        Expr::Children(steps) => Some(steps),
+        _ => None,
     }
 }

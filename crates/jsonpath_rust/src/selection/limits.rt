@@ -1,42 +1,42 @@
 //! How much work a call may take: any amount, or a number of units.
-ghost use Rattle.std.specs.Prelude.{◌≡◌, [], Bool, false, is_some, IsTrue, true};
+ghost use Rattle.jsonpath_base.specs.documents.Document.{Document};
+ghost use Rattle.jsonpath_base.specs.documents.Patterns.{IsStop, segments_patterns};
 ghost use Rattle.jsonpath_parser.specs.tree.Syntax.{Query};
 ghost use Rattle.jsonpath_parser.specs.tree.Typing.{is_singular};
 ghost use Rattle.jsonpath_parser.specs.tree.View.{query_view};
-ghost use Rattle.jsonpath_base.specs.documents.Document.{Document};
-ghost use Rattle.jsonpath_base.specs.documents.Patterns.{IsStop, segments_patterns};
+ghost use Rattle.jsonpath_rust.specs.Prelude.Selection.{IsSpent, Limited, Unlimited};
 ghost use Rattle.jsonpath_rust.specs.selection.Condition.{expression_of, tests_singular};
-ghost use Rattle.jsonpath_rust.specs.selection.Stop.{StopsUnits};
-ghost use Rattle.jsonpath_rust.specs.selection.inner.Halting.{IsHalt, limit_of};
+ghost use Rattle.jsonpath_rust.specs.selection.LimitError.{StopsUnits};
+ghost use Rattle.jsonpath_rust.specs.selection.inner.Halting.{IsWalkError, limit_of};
+ghost use Rattle.std.specs.Prelude.{Bool, IfErr, IsTrue, OnErr, OnOk, [], false, is_some, true, ◌+◌, ◌<◌, ◌≡◌};
 
-use crate::documents::halt::Halt;
-use crate::selection::budget::Budget;
-use crate::selection::singular_test::is_one_singular_test;
-use crate::selection::stop::Stop;
+use crate::documents::walk_error::{WalkError, WalkResult};
+use crate::selection::condition::is_one_singular_test;
 use jsonpath_parser::errors::JsonPathError;
 use jsonpath_parser::is_singular;
 use jsonpath_parser::model::JpQuery;
 use std::alloc::Global;
+use thiserror::Error;
 
 /// How much work each call of a runner may take: [`Unlimited`] or [`Units`].
-pub trait Limits: Drop {
+pub trait Limit: Drop {
     /// Why a call has no result.
-    type Stop: Drop;
+    type Error: Drop;
 
     /// Whether units are counted.
     ghost counts: { Bool };
 
     /// What a reason means for a query and a document, of a call that is free or not.
-    ghost stops: { Bool → Query → Document → Self.Stop → Type 0 };
+    ghost stops: { Bool → Query → Document → Self.Error → Type 0 };
 
     /// The units of a call that is not free, if they are counted.
     fn units(&self) -> Option<usize>
         ensures { is_some result ≡ counts };
 
     /// What a caller is told of a walk that halted. A call is free only where its query asks no pattern.
-    fn stop(alloc: Global, halt: Halt) -> Self::Stop
+    fn error(alloc: Global, halt: WalkError) -> Self::Error
         ensures { (free : Bool) (q : Query) (doc : Document) → (IsTrue free → segments_patterns q ≡ []) →
-            IsHalt (limit_of counts free) (segments_patterns q) doc halt → stops free q doc result };
+            IsWalkError (limit_of counts free) (segments_patterns q) doc halt → stops free q doc result };
 }
 
 /// Any amount of work.
@@ -44,7 +44,7 @@ pub trait Limits: Drop {
 pub struct Unlimited;
 
 /// A number of units of work for each call: for untrusted queries. Where they are not enough, a call returns
-/// [`Stop::Spent`].
+/// [`LimitError::Exhausted`].
 ///
 /// A singular query, such as `$.a[0]` (RFC 9535, 2.3.5.1), looks up no more than the names and indexes that it has. It
 /// is free, and no call returns `Spent` for it. So is a condition that tests one, such as `!@.error[0]`. Any other
@@ -97,8 +97,8 @@ impl Units {
     }
 }
 
-impl Limits for Unlimited {
-    type Stop = JsonPathError;
+impl Limit for Unlimited {
+    type Error = JsonPathError;
 
     ghost counts = { false };
 
@@ -108,13 +108,13 @@ impl Limits for Unlimited {
         None
     }
 
-    fn stop(alloc: Global, halt: Halt) -> JsonPathError {
-        halt.told(alloc)
+    fn error(alloc: Global, halt: WalkError) -> JsonPathError {
+        halt.into_error(alloc)
     }
 }
 
-impl Limits for Units {
-    type Stop = Stop;
+impl Limit for Units {
+    type Error = LimitError;
 
     ghost counts = { true };
 
@@ -124,16 +124,16 @@ impl Limits for Units {
         Some(self.count)
     }
 
-    fn stop(alloc: Global, halt: Halt) -> Stop {
+    fn error(alloc: Global, halt: WalkError) -> LimitError {
         match halt {
-            Halt::Spent => Stop::Spent,
-            halt => Stop::Refused(halt.told(alloc)),
+            WalkError::Spent => LimitError::Exhausted,
+            halt => LimitError::Query(halt.into_error(alloc)),
         }
     }
 }
 
 /// The work that a query may take. A singular one is free.
-pub fn query_budget<L: Limits>(limits: &L, query: &JpQuery) -> Budget
+pub fn query_budget<L: Limit>(limits: &L, query: &JpQuery) -> Budget
     ensures { result.limit ≡ limit_of L.counts (is_singular (query_view query.now)) }
 {
     match limits.units() {
@@ -149,7 +149,7 @@ pub fn query_budget<L: Limits>(limits: &L, query: &JpQuery) -> Budget
 }
 
 /// The work that a condition may take, of its query `$[?..]`. A test of a singular query is free.
-pub fn condition_budget<L: Limits>(limits: &L, query: &JpQuery) -> Budget
+pub fn condition_budget<L: Limit>(limits: &L, query: &JpQuery) -> Budget
     ensures { result.limit ≡ limit_of L.counts (tests_singular (expression_of (query_view query.now))) }
 {
     match limits.units() {
@@ -161,5 +161,104 @@ pub fn condition_budget<L: Limits>(limits: &L, query: &JpQuery) -> Budget
                 Budget::of(units)
             }
         }
+    }
+}
+
+/// Why a call under a limit of work has no result.
+#[derive(Debug, Drop, PartialEq, Error)]
+pub enum LimitError {
+    /// The units were not enough.
+    #[error("the units of work were not enough")]
+    Exhausted,
+    /// The call is refused, as one without a limit.
+    #[error("{0}")]
+    Query(JsonPathError),
+}
+
+impl From<JsonPathError> for LimitError {
+    ghost use Rattle.jsonpath_rust.specs.declared.selection.limits.LimitError.TheVariants as limit_error;
+
+    ghost from_gives = { λ e s. s ≡ limit_error.Query e };
+
+    fn from(error: JsonPathError) -> LimitError {
+        LimitError::Query(error)
+    }
+}
+
+/// Whether the work of a walk is limited.
+#[derive(Clone, Copy, Debug)]
+pub enum WorkLimit {
+    Unlimited,
+    Limited,
+}
+
+/// The work that is left to a walk, in units, and whether it is limited.
+#[derive(Clone, Copy, Debug)]
+pub struct Budget {
+    pub limit: WorkLimit,
+    left: usize,
+}
+
+impl Budget {
+    /// Any amount of work.
+    pub fn unlimited() -> Self
+        ensures { result.limit ≡ Unlimited }
+    {
+        Budget {
+            limit: WorkLimit::Unlimited,
+            left: usize::MAX,
+        }
+    }
+
+    /// So many units.
+    pub fn of(units: usize) -> Self
+        ensures limit { result.limit ≡ Limited }
+        ensures left { result.left ≡ units }
+    {
+        Budget {
+            limit: WorkLimit::Limited,
+            left: units,
+        }
+    }
+
+    /// How many units are left.
+    pub fn left(&self) -> usize {
+        self.left
+    }
+
+    /// Takes so many units from what is left. Where less is left, a limited walk halts, and nothing is left then; one
+    /// without a limit begins to count anew.
+    #[inline(always)]
+    pub fn spend(&mut self, limit: WorkLimit, units: usize) -> WalkResult<()>
+        ensures paid { OnOk result (limit ≡ Limited → self.new.left + units ≡ self.old.left) }
+        ensures short { OnErr result (self.old.left < units) }
+        ensures refused { IfErr result (IsSpent limit) }
+    {
+        if units <= self.left {
+            self.left -= units;
+            return Ok(());
+        }
+        match limit {
+            WorkLimit::Unlimited => {
+                self.left = usize::MAX;
+                Ok(())
+            }
+            WorkLimit::Limited => {
+                self.left = 0;
+                Err(WalkError::Spent)
+            }
+        }
+    }
+
+    /// The same, where it is often none: nothing is looked at for that.
+    #[inline(always)]
+    pub fn spend_some(&mut self, limit: WorkLimit, units: usize) -> WalkResult<()>
+        ensures paid { OnOk result (limit ≡ Limited → self.new.left + units ≡ self.old.left) }
+        ensures refused { IfErr result (IsSpent limit) }
+    {
+        if units == 0 {
+            return Ok(());
+        }
+        self.spend(limit, units)
     }
 }

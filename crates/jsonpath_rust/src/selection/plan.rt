@@ -1,16 +1,17 @@
 //! A plan of a query: what is to be done at a node, found out once and not at each node. It says which queries inside
 //! filters are looked up and which are walked, which parts are constants, and which patterns are the same.
-ghost use Rattle.jsonpath_rust.specs.selection.inner.PlanViews.{IsSettled, IsSettled-prop, IsRooted, IsRooted-prop};
+ghost use Rattle.jsonpath_base.specs.Prelude.Documents.{absolute, no_segments, test_argument};
+ghost use Rattle.jsonpath_rust.specs.Prelude.Selection.{Constants, IsQuery, IsValue, argument_at, constant_view, constants_view, filter_of, filter_view, fits, is_query_part, is_same_demand, part_at, segment_filter, segment_view, segments_meant};
+ghost use Rattle.jsonpath_rust.specs.selection.inner.PlanViews.{IsRooted, IsRooted-prop, IsStable, IsStable-prop};
+ghost use Rattle.std.specs.Prelude.{IfNone, IfSome, IsFalse, IsTrue, length, option_map, ◌<◌, ◌≡◌};
 
-mod constants;
 mod make;
 mod numbering;
-mod patterns;
 mod steps;
 
 pub use self::make::plan_of;
-pub use self::numbering::{DOCUMENT_LEVELS, Nesting, When};
-use crate::selection::sink::Wanted;
+pub use self::numbering::{DOCUMENT_LEVELS, RootNesting, When};
+use crate::selection::sink::Demand;
 use jsonpath_parser::model::{Literal, Operator, SingularQuerySegment};
 
 /// Lets a plan go.
@@ -25,10 +26,10 @@ pub struct Plan {
     /// The constants of the query, by number. One that stands in the filters of another has the smaller number.
     pub constants: Vec<Constant>,
     /// The queries from the root that are in one another inside filters; the query itself does not count.
-    pub nesting: Nesting,
+    pub nesting: RootNesting,
     /// How many patterns have a number. Each is smaller than this.
     pub pattern_count: usize,
-    ghost settled: { IsSettled constants.items } by { IsSettled-prop constants.items },
+    ghost stable: { IsStable constants.items } by { IsStable-prop constants.items },
     ghost rooted: { IsRooted constants.items } by { IsRooted-prop constants.items },
 }
 
@@ -39,17 +40,17 @@ pub enum Constant {
     /// What is wanted of the nodes of a query from the root.
     Nodes {
         segments: Vec<Segment>,
-        wanted: Wanted,
+        demand: Demand,
         when: When,
     },
     /// What a call returns.
     Answer(Call),
     /// Whether the sides compare so.
-    Comparison(Operator, Part, Part),
+    Comparison(Operator, Expr, Expr),
 }
 
 /// A comparison: the operator, and the sides.
-pub type Comparison<'s> = (Operator, &'s Part, &'s Part);
+pub type Comparison<'s> = (Operator, &'s Expr, &'s Expr);
 
 /// A segment, which replaces each node by nodes below it (RFC 9535, 2.5).
 #[derive(Drop)]
@@ -90,9 +91,9 @@ pub enum Filter {
     /// The filter holds, turned round where `not`.
     Group { expr: Box<Filter>, not: bool },
     /// The part is a query that has a node, or a call that returns true, turned round where `not`.
-    Test { part: Part, not: bool },
+    Test { part: Expr, not: bool },
     /// The sides compare so.
-    Comparison(Operator, Part, Part),
+    Comparison(Operator, Expr, Expr),
     /// The constant of this number, which is a comparison, holds.
     Constant(usize),
 }
@@ -101,7 +102,7 @@ pub enum Filter {
 /// tells what is wanted of the nodes of a query.
 #[derive(Drop)]
 #[cycle(plan)]
-pub enum Part {
+pub enum Expr {
     /// A literal.
     Literal(Literal),
     /// A text that is asked as a pattern. Equal texts have one number for `match`, and another for `search`.
@@ -126,15 +127,130 @@ pub enum Part {
 #[cycle(plan)]
 pub enum Call {
     /// A function of any name. All values of its arguments are wanted.
-    Custom(String, Vec<Part>),
+    Custom(String, Vec<Expr>),
     /// `length`
-    Length(Part),
+    Length(Expr),
     /// `value`
-    Value(Part),
+    Value(Expr),
     /// `count`
-    Count(Part),
+    Count(Expr),
     /// `search`
-    Search(Part, Part),
+    Search(Expr, Expr),
     /// `match`
-    Match(Part, Part),
+    Match(Expr, Expr),
+}
+
+impl Plan {
+    /// The constant of this number, if it is no query, or one of which this is wanted.
+    #[inline(always)]
+    pub fn constant(&self, number: usize, demand: Demand) -> Option<&Constant>
+        ensures part { IfSome result (λ c. part_at (constants_view self.now.constants.items) number
+            ≡ constant_view (constants_view self.now.constants.items) c.now) }
+        ensures fits { IfSome result (λ c. IsTrue (fits demand (part_at (constants_view self.now.constants.items) number))) }
+        ensures within { IfSome result (λ c. number < length (constants_view self.now.constants.items)) }
+        ensures none { IfNone result (argument_at (constants_view self.now.constants.items) demand number
+            ≡ test_argument (absolute no_segments)) }
+    {
+        let constant = self.constants.get(number)?;
+        if constant.fits(demand) {
+            Some(constant)
+        } else {
+            None
+        }
+    }
+
+    /// Whether a part is a query, where this is wanted of it; any other is a value.
+    pub fn is_query(&self, part: &Expr, demand: Demand) -> bool
+        ensures query { IsTrue result → IsQuery (constants_view self.now.constants.items) part.now demand }
+        ensures value { IsFalse result → IsValue (constants_view self.now.constants.items) part.now demand }
+    {
+        match part {
+            Expr::Literal(_literal) => false,
+            Expr::Pattern(_text, _number) => false,
+            Expr::Lookup(_steps) => true,
+            Expr::Children(_steps) => demand.is_counted(),
+            Expr::Walk(_segments) => true,
+            Expr::Call(_call) => false,
+            Expr::Filter(_filter) => false,
+            Expr::Constant(number) => match self.constants.get(*number) {
+                Some(constant) => constant.is_query(),
+                None => true,
+            },
+        }
+    }
+}
+
+impl Constant {
+    /// Whether it is no query, or one of which this is wanted.
+    #[inline(always)]
+    fn fits(&self, demand: Demand) -> bool
+        ensures { (constants : Constants) → result ≡ fits demand (constant_view constants self.now) }
+    {
+        match self {
+            Constant::Nodes {
+                demand: made_for,
+                ..
+            } => is_same_demand(demand, *made_for),
+            Constant::Answer(_call) => true,
+            Constant::Comparison(_operator, _left, _right) => true,
+        }
+    }
+
+    /// Whether it is a query.
+    fn is_query(&self) -> bool
+        ensures { (constants : Constants) → result ≡ is_query_part (constant_view constants self.now) }
+    {
+        match self {
+            Constant::Nodes { .. } => true,
+            Constant::Answer(_call) => false,
+            Constant::Comparison(_operator, _left, _right) => false,
+        }
+    }
+}
+
+/// Whether the same is wanted.
+#[inline(always)]
+fn is_same_demand(left: Demand, right: Demand) -> bool
+    ensures { result ≡ is_same_demand left right }
+{
+    match (left, right) {
+        (Demand::Exists, Demand::Exists) => true,
+        (Demand::Count, Demand::Count) => true,
+        (Demand::Single, Demand::Single) => true,
+        (Demand::Values, Demand::Values) => true,
+        _ => false,
+    }
+}
+
+/// The filter that these segments are, if they are one filter alone.
+pub fn only_filter(segments: &[Segment]) -> Option<&Filter>
+    ensures { (constants : Constants) → option_map (λ f. filter_view constants f.now) result ≡ filter_of (segments_meant constants segments.now) }
+{
+    match segments.split_first() {
+        None => None,
+        Some((first, rest)) => {
+            if rest.is_empty() {
+                segment_filter(first)
+            } else {
+                None
+            }
+        }
+    }
+}
+
+/// The filter that a segment is, if it is one filter alone.
+fn segment_filter(segment: &Segment) -> Option<&Filter>
+    ensures { (constants : Constants) → option_map (λ f. filter_view constants f.now) result ≡ segment_filter (segment_view constants segment.now) }
+{
+    match segment {
+        Segment::Selector(selector) => match selector {
+            Selector::Filter(filter) => Some(filter),
+            Selector::Name(_) => None,
+            Selector::Wildcard => None,
+            Selector::Index(_) => None,
+            Selector::Slice(_, _, _) => None,
+        },
+        Segment::Selectors(_) => None,
+        Segment::Descendant(_) => None,
+    }
 }

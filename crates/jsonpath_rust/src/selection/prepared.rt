@@ -5,11 +5,10 @@ ghost use Rattle.jsonpath_rust.specs.selection.inner.Planned.{IsPlanOf, IsPlanOf
 
 use crate::documents::Queried;
 use crate::selection::plan::{Plan, plan_of, release};
-use crate::selection::planned::Planned;
-use crate::selection::runner::Runner;
-use jsonpath_base::engine::Cells;
+use crate::selection::runner::{Planned, Runner};
+use jsonpath_base::engine::PatternSlots;
 use jsonpath_parser::model::JpQuery;
-use jsonpath_parser::{MAX_NESTING_DEPTH, let_go, parse_json_path_within};
+use jsonpath_parser::{MAX_NESTING_DEPTH, drop_query, parse_json_path_within};
 use std::alloc::Global;
 use std::fmt;
 use std::fmt::{Debug, Formatter, Write};
@@ -23,7 +22,7 @@ pub struct Prepared {
     query: JpQuery,
     plan: Plan,
     /// Where its patterns are built.
-    cells: Cells,
+    cells: PatternSlots,
     ghost same: { IsPlanOf (query_view query) plan } by { IsPlanOf-prop (query_view query) plan },
 }
 
@@ -33,7 +32,7 @@ pub struct PreparedRef<'q> {
     query: &'q JpQuery,
     plan: Plan,
     /// Where its patterns are built.
-    cells: Cells,
+    cells: PatternSlots,
     ghost same: { IsPlanOf (query_view query.now) plan } by { IsPlanOf-prop (query_view query.now) plan },
 }
 
@@ -49,7 +48,7 @@ impl Prepared {
         match plan_with_cells(alloc, &query) {
             Ok((plan, cells)) => Ok(Prepared { query, plan, cells }),
             Err(error) => {
-                let_go(query);
+                drop_query(query);
                 Err(error)
             }
         }
@@ -75,7 +74,7 @@ impl Prepared {
         ensures query { IfOk result (λ p. Derives MAX_NESTING_DEPTH text.now (prepared_view p)) }
 
         // Every tree that the text derives is that of the query, unless memory ran out.
-        ensures only { (t : Query) → Derives MAX_NESTING_DEPTH text.now t →
+        ensures complete { (t : Query) → Derives MAX_NESTING_DEPTH text.now t →
             MatchResult result (λ p. prepared_view p ≡ t) (λ e. e ≡ OutOfMemory) }
 
         // A Normalized Path is refused by `OutOfMemory` alone.
@@ -95,7 +94,7 @@ impl Prepared {
         ensures query { IfOk result (λ p. Derives depth text.now (prepared_view p)) }
 
         // Every tree that the text derives is that of the query, unless memory ran out.
-        ensures only { (t : Query) → Derives depth text.now t → MatchResult result (λ p. prepared_view p ≡ t) (λ e. e ≡ OutOfMemory) }
+        ensures complete { (t : Query) → Derives depth text.now t → MatchResult result (λ p. prepared_view p ≡ t) (λ e. e ≡ OutOfMemory) }
 
         // A Normalized Path is refused by `OutOfMemory` alone.
         ensures normal { (l : Location) → IsNormal l text.now → HasIndexesInRange l → 1 ≤ depth →
@@ -172,12 +171,12 @@ impl<'q> Debug for PreparedRef<'q> {
 }
 
 /// The plan of a query, and where its patterns are built.
-fn plan_with_cells(alloc: Global, query: &JpQuery) -> Queried<(Plan, Cells)>
+fn plan_with_cells(alloc: Global, query: &JpQuery) -> Queried<(Plan, PatternSlots)>
     ensures plan { IfOk result (λ p. plan_view p.0 ≡ query_view query.now) }
     ensures memory { IfErr result (λ e. e ≡ OutOfMemory) }
 {
     let plan = plan_of(alloc, query)?;
-    match Cells::new(alloc, plan.pattern_count) {
+    match PatternSlots::new(alloc, plan.pattern_count) {
         Ok(cells) => Ok((plan, cells)),
         Err(error) => {
             release(plan);

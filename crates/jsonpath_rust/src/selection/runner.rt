@@ -1,25 +1,26 @@
 //! A prepared query that is asked of one document after another, under a limit of work or none.
-ghost use Rattle.std.specs.Prelude.{◌++◌, ◌≡◌, codes, IfErr, IfOk, Some};
-ghost use Rattle.jsonpath_base.specs.Prelude.Documents.{AreLocations, AreNodes, ArePaths, AreValues, distinct_count, Document, holds, is_among, nodelist, query_shown, query_view, root_node, selected};
-ghost use Rattle.jsonpath_rust.specs.Prelude.Documents.{document_at, tree_of};
-ghost use Rattle.jsonpath_rust.specs.Prelude.Selection.{expression_of, give, IsConditionStop, IsCount, IsFirst, IsOnlyNode, IsRemovalOf, IsStopOf, plan_view, planned_view, runner_view, seen, TellsWhether};
+ghost use Rattle.jsonpath_base.specs.LocationSetViews.{sorted_count, sorted_set};
+ghost use Rattle.jsonpath_base.specs.Prelude.Documents.{AreLocations, AreNodes, ArePaths, AreValues, Document, distinct_count, holds, is_among, nodelist, query_shown, query_view, root_node, segments_patterns, selected};
 ghost use Rattle.jsonpath_rust.specs.Prelude.Calls.{Runs};
-ghost use Rattle.jsonpath_base.specs.RemovalViews.{ordered_count, ordered_set};
+ghost use Rattle.jsonpath_rust.specs.Prelude.Documents.{document_at, tree_of};
+ghost use Rattle.jsonpath_rust.specs.Prelude.Selection.{Feeds, IsConditionStop, IsCount, IsFirst, IsLocationSetOf, IsOnlyNode, IsStopOf, IsWalkError, TellsWhether, expression_of, feed, plan_view, planned_view, runner_view, seen};
+ghost use Rattle.jsonpath_rust.specs.selection.inner.Planned.{IsPlanOf, IsPlanOf-prop};
+ghost use Rattle.std.specs.Prelude.{IfErr, IfOk, Some, codes, ◌++◌, ◌≡◌};
 
-use crate::documents::halt::Halt;
 use crate::documents::nodes::{WholeNodes, WholeValues};
 use crate::documents::queryable::Queryable;
+use crate::documents::walk_error::{WalkError, WalkResult};
 use crate::documents::whole::WholeRef;
 use crate::documents::{QueryPath, QueryRef};
-use crate::selection::budget::Budget;
-use crate::selection::deciding::decide;
-use crate::selection::give::{Request, give_requested};
-use crate::selection::limits::{Limits, Units, Unlimited, condition_budget, query_budget};
-use crate::selection::only::Only;
-use crate::selection::planned::Planned;
-use crate::selection::sink::{Sink, Wanted};
+use crate::selection::condition::evaluate;
+use crate::selection::limits::{Budget, Limit, Units, Unlimited, condition_budget, query_budget};
+use crate::selection::plan::Plan;
+use crate::selection::sink::{Demand, Only, Sink};
+use crate::selection::walk::{WalkContext, WalkState};
 use jsonpath_base::Step;
-use jsonpath_base::engine::{KeptFinders, OrderedRemoval, Removal};
+use jsonpath_base::engine::{
+    DocumentPatternSlots, LocationSet, PatternCache, PatternSlots, QueryMatchers, SortedLocations,
+};
 use jsonpath_parser::model::JpQuery;
 use std::alloc::Global;
 use std::fmt::{Debug, Formatter, Write};
@@ -36,16 +37,16 @@ use std::{fmt, mem};
 ///   or `search`, and whose value at some node of the document is a text that `regex` reads.
 /// - `OutOfMemory` where memory ran out.
 ///
-/// Under a limit these are [`Stop::Refused`], and [`Stop::Spent`] says that the units were not enough. The query can be
+/// Under a limit these are [`LimitError::Query`], and [`LimitError::Exhausted`] says that the units were not enough. The query can be
 /// run again after each.
 ///
 /// [`Prepared`]: crate::selection::Prepared
-/// [`Stop::Refused`]: crate::selection::Stop::Refused
-/// [`Stop::Spent`]: crate::selection::Stop::Spent
+/// [`LimitError::Query`]: crate::selection::Stop::Refused
+/// [`LimitError::Exhausted`]: crate::selection::Stop::Spent
 #[derive(Drop)]
-pub struct Runner<'p, L: Limits = Unlimited> {
+pub struct Runner<'p, L: Limit = Unlimited> {
     planned: Planned<'p>,
-    finders: KeptFinders<'p>,
+    finders: QueryMatchers<'p>,
     limits: L,
 }
 
@@ -54,7 +55,7 @@ impl<'p> Runner<'p> {
     pub(crate) fn new(alloc: Global, planned: Planned<'p>) -> Self
         ensures { runner_view result ≡ planned_view planned.entry }
     {
-        let finders = KeptFinders::new(alloc, planned.cells);
+        let finders = QueryMatchers::new(alloc, planned.cells);
         Runner {
             planned,
             finders,
@@ -63,7 +64,7 @@ impl<'p> Runner<'p> {
     }
 }
 
-impl<'p, L: Limits> Runner<'p, L> {
+impl<'p, L: Limit> Runner<'p, L> {
     /// The query.
     pub fn query(&self) -> &JpQuery
         ensures { query_view result.now ≡ runner_view self.now }
@@ -88,11 +89,11 @@ impl<'p, L: Limits> Runner<'p, L> {
         &mut self,
         alloc: Global,
         value: WholeRef<'a, T>,
-    ) -> Result<Vec<QueryRef<'a, T>>, L::Stop>
+    ) -> Result<Vec<QueryRef<'a, T>>, L::Error>
         ensures { Runs L.stops (runner_view self.old) (runner_view self.new) (document_at value.entry) (AreNodes T.Queryable.own) result }
     {
         let begun = Sink::Nodes(WholeNodes::new(alloc));
-        let sink = self.give_all(alloc, value, begun)?;
+        let sink = self.run_into(alloc, value, begun)?;
         Ok(sink.into_nodes(alloc).list)
     }
 
@@ -101,11 +102,11 @@ impl<'p, L: Limits> Runner<'p, L> {
         &mut self,
         alloc: Global,
         value: WholeRef<'a, T>,
-    ) -> Result<Vec<&'a T>, L::Stop>
+    ) -> Result<Vec<&'a T>, L::Error>
         ensures { Runs L.stops (runner_view self.old) (runner_view self.new) (document_at value.entry) (AreValues T.Queryable.own) result }
     {
         let begun = Sink::Values(WholeValues::new(alloc));
-        let sink = self.give_all(alloc, value, begun)?;
+        let sink = self.run_into(alloc, value, begun)?;
         Ok(sink.into_values(alloc).list)
     }
 
@@ -114,10 +115,10 @@ impl<'p, L: Limits> Runner<'p, L> {
         &mut self,
         alloc: Global,
         value: WholeRef<'_, T>,
-    ) -> Result<Vec<QueryPath>, L::Stop>
+    ) -> Result<Vec<QueryPath>, L::Error>
         ensures { Runs L.stops (runner_view self.old) (runner_view self.new) (document_at value.entry) ArePaths result }
     {
-        let sink = self.give_all(alloc, value, Sink::Paths(Vec::new(alloc)))?;
+        let sink = self.run_into(alloc, value, Sink::Paths(Vec::new(alloc)))?;
         Ok(sink.into_paths(alloc))
     }
 
@@ -126,11 +127,11 @@ impl<'p, L: Limits> Runner<'p, L> {
         &mut self,
         alloc: Global,
         value: WholeRef<'_, T>,
-    ) -> Result<Vec<Vec<Step>>, L::Stop>
+    ) -> Result<Vec<Vec<Step>>, L::Error>
         ensures { Runs L.stops (runner_view self.old) (runner_view self.new) (document_at value.entry) AreLocations result }
     {
         let begun = Sink::Locations(Vec::new(alloc));
-        let sink = self.give_all(alloc, value, begun)?;
+        let sink = self.run_into(alloc, value, begun)?;
         Ok(sink.into_locations(alloc))
     }
 
@@ -140,11 +141,11 @@ impl<'p, L: Limits> Runner<'p, L> {
         &mut self,
         alloc: Global,
         value: WholeRef<'a, T>,
-    ) -> Result<Option<QueryRef<'a, T>>, L::Stop>
+    ) -> Result<Option<QueryRef<'a, T>>, L::Error>
         ensures { Runs L.stops (runner_view self.old) (runner_view self.new) (document_at value.entry) (IsFirst T.Queryable.own) result }
     {
-        let sink = self.give_all(alloc, value, Sink::first(alloc, 1))?;
-        let only = sink.into_nodes(alloc).told();
+        let sink = self.run_into(alloc, value, Sink::first(alloc, 1))?;
+        let only = sink.into_nodes(alloc).into_only();
         Ok(only.one())
     }
 
@@ -154,11 +155,11 @@ impl<'p, L: Limits> Runner<'p, L> {
         &mut self,
         alloc: Global,
         value: WholeRef<'a, T>,
-    ) -> Result<Only<'a, T>, L::Stop>
+    ) -> Result<Only<'a, T>, L::Error>
         ensures { Runs L.stops (runner_view self.old) (runner_view self.new) (document_at value.entry) (IsOnlyNode T.Queryable.own) result }
     {
-        let sink = self.give_all(alloc, value, Sink::first(alloc, 2))?;
-        Ok(sink.into_nodes(alloc).told())
+        let sink = self.run_into(alloc, value, Sink::first(alloc, 2))?;
+        Ok(sink.into_nodes(alloc).into_only())
     }
 
     /// How many these nodes are, up to 2^63 - 1. No path and no list is made.
@@ -166,10 +167,10 @@ impl<'p, L: Limits> Runner<'p, L> {
         &mut self,
         alloc: Global,
         value: WholeRef<'_, T>,
-    ) -> Result<usize, L::Stop>
+    ) -> Result<usize, L::Error>
         ensures { Runs L.stops (runner_view self.old) (runner_view self.new) (document_at value.entry) IsCount result }
     {
-        let sink = self.give_all(alloc, value, Sink::start(alloc, Wanted::Count))?;
+        let sink = self.run_into(alloc, value, Sink::start(alloc, Demand::Count))?;
         Ok(sink.into_count())
     }
 
@@ -178,10 +179,10 @@ impl<'p, L: Limits> Runner<'p, L> {
         &mut self,
         alloc: Global,
         value: WholeRef<'_, T>,
-    ) -> Result<bool, L::Stop>
+    ) -> Result<bool, L::Error>
         ensures { Runs L.stops (runner_view self.old) (runner_view self.new) (document_at value.entry) TellsWhether result }
     {
-        let sink = self.give_all(alloc, value, Sink::start(alloc, Wanted::Any))?;
+        let sink = self.run_into(alloc, value, Sink::start(alloc, Demand::Exists))?;
         Ok(sink.into_count() > 0)
     }
 
@@ -192,16 +193,16 @@ impl<'p, L: Limits> Runner<'p, L> {
         alloc: Global,
         value: WholeRef<'_, T>,
         copy: usize,
-    ) -> Result<OrderedRemoval, L::Stop>
-        ensures set { IfOk result (λ r. ordered_set r ≡ is_among (selected (runner_view self.old) (document_at value.entry))) }
-        ensures count { IfOk result (λ r. ordered_count r ≡ distinct_count (selected (runner_view self.old) (document_at value.entry))) }
+    ) -> Result<SortedLocations, L::Error>
+        ensures set { IfOk result (λ r. sorted_set r ≡ is_among (selected (runner_view self.old) (document_at value.entry))) }
+        ensures count { IfOk result (λ r. sorted_count r ≡ distinct_count (selected (runner_view self.old) (document_at value.entry))) }
         ensures same { runner_view self.new ≡ runner_view self.old }
         ensures refused { IfErr result (IsStopOf L.stops (runner_view self.old) (document_at value.entry)) }
     {
         let removal = self.removal(alloc, value, copy)?;
         match removal.ordered(alloc) {
             Ok(marked) => Ok(marked),
-            Err(_memory) => Err(L::stop(alloc, Halt::Memory)),
+            Err(_memory) => Err(L::error(alloc, WalkError::Memory)),
         }
     }
 
@@ -211,19 +212,19 @@ impl<'p, L: Limits> Runner<'p, L> {
         alloc: Global,
         value: WholeRef<'_, T>,
         copy: usize,
-    ) -> Result<Removal, L::Stop>
-        ensures removal { IfOk result (λ r. IsRemovalOf r (selected (runner_view self.old) (document_at value.entry))) }
+    ) -> Result<LocationSet, L::Error>
+        ensures removal { IfOk result (λ r. IsLocationSetOf r (selected (runner_view self.old) (document_at value.entry))) }
         ensures same { runner_view self.new ≡ runner_view self.old }
         ensures refused { IfErr result (IsStopOf L.stops (runner_view self.old) (document_at value.entry)) }
     {
-        let begun = match Box::new(alloc, Removal::new(alloc)) {
-            Ok(removal) => Sink::Removal(removal, copy),
-            Err(_memory) => return Err(L::stop(alloc, Halt::Memory)),
+        let begun = match Box::new(alloc, LocationSet::new(alloc)) {
+            Ok(removal) => Sink::LocationSet(removal, copy),
+            Err(_memory) => return Err(L::error(alloc, WalkError::Memory)),
         };
-        let sink = self.give_all(alloc, value, begun)?;
+        let sink = self.run_into(alloc, value, begun)?;
         match sink.into_removal() {
             Some(removal) => Ok(Box::into_inner(removal)),
-            None => Ok(Removal::new(alloc)),
+            None => Ok(LocationSet::new(alloc)),
         }
     }
 
@@ -232,46 +233,46 @@ impl<'p, L: Limits> Runner<'p, L> {
         &self,
         alloc: Global,
         value: WholeRef<'_, T>,
-    ) -> Result<usize, L::Stop>
+    ) -> Result<usize, L::Error>
         ensures refused { (doc : Document) → IfErr result (IsStopOf L.stops (runner_view self.now) doc) }
     {
         let budget = query_budget(&self.limits, self.planned.query);
         match budget.limit.copy_cost(alloc, value, budget.left()) {
             Ok(cost) => Ok(cost),
-            Err(_memory) => Err(L::stop(alloc, Halt::Memory)),
+            Err(_memory) => Err(L::error(alloc, WalkError::Memory)),
         }
     }
 
     /// The sink, given the nodes.
-    fn give_all<'a, T: Queryable>(
+    fn run_into<'a, T: Queryable>(
         &mut self,
         alloc: Global,
         value: WholeRef<'a, T>,
         mut sink: Sink<'a, T>,
-    ) -> Result<Sink<'a, T>, L::Stop>
-        ensures gave { IfOk result (λ s. seen s ≡ give (seen sink.entry) (nodelist (runner_view self.old) (document_at value.entry))) }
+    ) -> Result<Sink<'a, T>, L::Error>
+        ensures outcome { IfOk result (λ s. seen s ≡ feed (seen sink.entry) (nodelist (runner_view self.old) (document_at value.entry))) }
         ensures same { runner_view self.new ≡ runner_view self.old }
         ensures refused { IfErr result (IsStopOf L.stops (runner_view self.old) (document_at value.entry)) }
     {
         let budget = query_budget(&self.limits, self.planned.query);
         let request = self.lend(alloc, budget);
-        let (given, finders) = give_requested(alloc, request, value, &mut sink);
+        let (given, finders) = run(alloc, request, value, &mut sink);
         self.finders = finders;
         match given {
             Ok(_goes_on) => Ok(sink),
             Err(halt) => {
                 drop(sink);
-                Err(L::stop(alloc, halt))
+                Err(L::error(alloc, halt))
             }
         }
     }
 
     /// Whether the one filter holds that the query is of, at the root of a document.
-    pub(crate) fn decided<T: Queryable>(
+    pub(crate) fn evaluate_condition<T: Queryable>(
         &mut self,
         alloc: Global,
         value: WholeRef<'_, T>,
-    ) -> Result<bool, L::Stop>
+    ) -> Result<bool, L::Error>
         ensures holds { IfOk result (λ b. b
             ≡ holds (expression_of (runner_view self.old)) (document_at value.entry) (root_node
             (tree_of value.entry))) }
@@ -280,11 +281,11 @@ impl<'p, L: Limits> Runner<'p, L> {
     {
         let budget = condition_budget(&self.limits, self.planned.query);
         let request = self.lend(alloc, budget);
-        let (held, finders) = decide(alloc, request, value);
+        let (held, finders) = evaluate(alloc, request, value);
         self.finders = finders;
         match held {
             Ok(held) => Ok(held),
-            Err(halt) => Err(L::stop(alloc, halt)),
+            Err(halt) => Err(L::error(alloc, halt)),
         }
     }
 
@@ -294,7 +295,7 @@ impl<'p, L: Limits> Runner<'p, L> {
         ensures budget { result.budget ≡ budget }
         ensures same { runner_view self.new ≡ runner_view self.old }
     {
-        let finders = KeptFinders::new(alloc, self.planned.cells);
+        let finders = QueryMatchers::new(alloc, self.planned.cells);
         Request {
             plan: self.planned.plan,
             finders: mem::replace(&mut self.finders, finders),
@@ -304,10 +305,61 @@ impl<'p, L: Limits> Runner<'p, L> {
 }
 
 /// `Runner` and its query between parentheses, as that is shown.
-impl<'p, L: Limits> Debug for Runner<'p, L> {
+impl<'p, L: Limit> Debug for Runner<'p, L> {
     ghost debug_output = { λ r. Some (codes "Runner(" ++ query_shown (runner_view r) ++ codes ")") };
 
     fn fmt<W: Write>(&self, f: &mut Formatter<W>) -> fmt::Result {
         write!(f, "Runner({})", self.query())
+    }
+}
+
+/// A query, its plan, and where its patterns are built: what a runner is lent.
+#[derive(Drop)]
+pub struct Planned<'p> {
+    pub query: &'p JpQuery,
+    pub plan: &'p Plan,
+    pub cells: &'p PatternSlots,
+    ghost same: { IsPlanOf (query_view query.now) plan.now } by { IsPlanOf-prop (query_view query.now) plan.now },
+}
+
+/// What is asked of a document: a plan, with what asks its patterns, and the work that it may take.
+#[derive(Drop)]
+pub struct Request<'s, 'p> {
+    pub plan: &'s Plan,
+    pub finders: QueryMatchers<'p>,
+    pub budget: Budget,
+}
+
+/// Gives to the sink the nodes of what is asked. The first result says whether to go on; the second asks the patterns
+/// of the plan, and can do so for the next document.
+pub fn run<'a, 'p, T: Queryable>(
+    alloc: Global,
+    request: Request<'_, 'p>,
+    root: WholeRef<'a, T>,
+    sink: &mut Sink<'a, T>,
+) -> (WalkResult<bool>, QueryMatchers<'p>)
+    ensures outcome { Feeds sink.old sink.new (nodelist (plan_view request.entry.plan.now) (document_at root.entry)) result.0 }
+    ensures refused { IfErr result.0 (IsWalkError request.entry.budget.limit
+        (segments_patterns (plan_view request.entry.plan.now)) (document_at root.entry)) }
+{
+    let Request {
+        plan,
+        finders,
+        budget,
+    } = request;
+    let slots = DocumentPatternSlots::new();
+    let context = WalkContext {
+        alloc,
+        plan,
+        root,
+        limit: budget.limit,
+    };
+    let mut state = WalkState::new(alloc, PatternCache::new(finders, &slots), budget);
+    match context.begin(&mut state) {
+        Ok(_begun) => {
+            let given = context.walk(&plan.segments, root, &mut state, sink);
+            (given, state.into_finders())
+        }
+        Err(halt) => (Err(halt), state.into_finders()),
     }
 }

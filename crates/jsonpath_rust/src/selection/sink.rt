@@ -1,47 +1,51 @@
 //! What is done with the nodes that a walk meets.
-ghost use Rattle.std.specs.Prelude.{◌∷◌, ◌≡◌, [], IfErr, IfOk, map, option_map, option_to_list, Some, ℕ};
-ghost use Rattle.jsonpath_base.specs.Prelude.Documents.{location_view, Node, of_nodes, paths_of, removal_count, removal_set, root_node, shown};
-ghost use Rattle.jsonpath_rust.specs.Prelude.Documents.{Memory, operand_tree, tree_of};
-ghost use Rattle.jsonpath_rust.specs.Prelude.Selection.{count_in, counted, few, finished, gave, is_counted, locations_in, node_of, nodes_in, paths_in, removal_in, seen, seen_few, seen_sole, start, TakesAlong, told_of, Took, values_in, wanted_of};
+ghost use Rattle.jsonpath_base.specs.Prelude.Documents.{Node, location_count, location_set, location_view, of_nodes, paths_of, root_node, shown};
+ghost use Rattle.jsonpath_rust.specs.Prelude.Documents.{Memory, filter_value_tree, tree_of};
+ghost use Rattle.jsonpath_rust.specs.Prelude.Selection.{Fed, FeedsInSync, IsOnlyOf, count_in, counted, demand_of, few, finished, is_counted, location_set_in, locations_in, node_of, nodes_in, paths_in, result_view, seen, seen_few, seen_sole, sole_node, start, told_of, values_in};
+ghost use Rattle.std.specs.Prelude.{IfErr, IfOk, IfSome, IsTrue, Some, [], map, option_map, option_to_list, ℕ, ◌∷◌, ◌≡◌};
 
-use crate::documents::QueryPath;
-use crate::documents::halt::Walked;
-use crate::documents::nodes::{WholeNodes, WholeSole, WholeValues};
-use crate::documents::operand::{GREATEST_COUNT, Operand, Scalar, Side, count_scalar};
+use crate::documents::filter_value::{
+    FilterValue, FilterValueRef, GREATEST_COUNT, Scalar, count_scalar,
+};
+use crate::documents::nodes::{WholeNodes, WholeSingle, WholeValues};
 use crate::documents::queryable::Queryable;
+use crate::documents::walk_error::WalkResult;
 use crate::documents::whole::WholeRef;
-use crate::selection::cache::Given;
+use crate::documents::{QueryPath, QueryRef};
+use crate::selection::constants::CachedResult;
 use jsonpath_base::Step;
-use jsonpath_base::engine::{Removal, Way};
+use jsonpath_base::engine::{CurrentPath, LocationSet};
 use std::alloc::Global;
 
 /// What is wanted of the nodes of a query inside a filter.
 #[derive(Clone, Copy, Debug, PartialEq)]
-pub enum Wanted {
+pub enum Demand {
     /// Whether there is one.
-    Any,
+    Exists,
     /// How many there are.
     Count,
     /// The value of the only one.
-    Sole,
+    Single,
     /// All their values.
     Values,
 }
 
-impl Wanted {
+impl Demand {
     /// What is wanted of one node, which has this value, or of none, as a value. `Values` is no single value: absent.
     #[inline(always)]
-    pub fn of<'a, 's, T: Queryable>(self, value: Option<WholeRef<'a, T>>) -> Operand<'a, 's, T>
-        ensures { operand_tree result ≡ wanted_of self (of_nodes (map root_node (option_to_list (option_map tree_of value.entry)))) }
+    pub fn of<'a, 's, T: Queryable>(self, value: Option<WholeRef<'a, T>>) -> FilterValue<'a, 's, T>
+        ensures { filter_value_tree result ≡ demand_of self (of_nodes (map root_node (option_to_list (option_map tree_of value.entry)))) }
     {
         match self {
-            Wanted::Any => Operand::Side(Side::Plain(Scalar::Truth(value.is_some()))),
-            Wanted::Count => match value {
-                Some(_value) => Operand::Side(Side::Plain(count_scalar(1))),
-                None => Operand::Side(Side::Plain(count_scalar(0))),
+            Demand::Exists => FilterValue::Ref(FilterValueRef::Plain(Scalar::Truth(
+                value.is_some(),
+            ))),
+            Demand::Count => match value {
+                Some(_value) => FilterValue::Ref(FilterValueRef::Plain(count_scalar(1))),
+                None => FilterValue::Ref(FilterValueRef::Plain(count_scalar(0))),
             },
-            Wanted::Sole => Operand::lent(value),
-            Wanted::Values => Operand::Side(Side::Absent),
+            Demand::Single => FilterValue::from_ref(value),
+            Demand::Values => FilterValue::Ref(FilterValueRef::Absent),
         }
     }
 
@@ -50,19 +54,19 @@ impl Wanted {
         ensures { result ≡ is_counted self }
     {
         match self {
-            Wanted::Any | Wanted::Count => true,
-            Wanted::Sole | Wanted::Values => false,
+            Demand::Exists | Demand::Count => true,
+            Demand::Single | Demand::Values => false,
         }
     }
 
     /// What is wanted of so many nodes, as a value: how many they are, or whether there is one.
     #[inline(always)]
-    pub fn of_count<'a, 's, T: Queryable>(self, count: usize) -> Operand<'a, 's, T>
-        ensures { operand_tree result ≡ Some (told_of self count) }
+    pub fn of_count<'a, 's, T: Queryable>(self, count: usize) -> FilterValue<'a, 's, T>
+        ensures { filter_value_tree result ≡ Some (told_of self count) }
     {
         match self {
-            Wanted::Any => Operand::Side(Side::Plain(Scalar::Truth(count > 0))),
-            _ => Operand::Side(Side::Plain(count_scalar(count))),
+            Demand::Exists => FilterValue::Ref(FilterValueRef::Plain(Scalar::Truth(count > 0))),
+            _ => FilterValue::Ref(FilterValueRef::Plain(count_scalar(count))),
         }
     }
 }
@@ -80,11 +84,11 @@ pub enum Sink<'a, T: Queryable> {
     Locations(Vec<Vec<Step>>),
     /// Marks each node's location to be removed or replaced. The number is what a copy costs that is put there. The
     /// removal is in a box, so that the other sinks stay small.
-    Removal(Box<Removal>, usize),
+    LocationSet(Box<LocationSet>, usize),
     /// Counts down from the second number, one for each node. It stops at 0.
     Count(usize, usize),
     /// The only node. It stops at the second.
-    Sole(WholeSole<'a, T>),
+    Single(WholeSingle<'a, T>),
     /// Keeps the values and Normalized Paths of the first nodes. It stops at the last of these.
     Few(FirstNodes<'a, T>),
 }
@@ -92,14 +96,14 @@ pub enum Sink<'a, T: Queryable> {
 impl<'a, T: Queryable> Sink<'a, T> {
     /// A sink for what is wanted, with no node yet.
     #[inline(always)]
-    pub fn start(alloc: Global, wanted: Wanted) -> Self
-        ensures { seen result ≡ start wanted }
+    pub fn start(alloc: Global, demand: Demand) -> Self
+        ensures { seen result ≡ start demand }
     {
-        match wanted {
-            Wanted::Any => Sink::Count(1, 1),
-            Wanted::Count => Sink::Count(GREATEST_COUNT, GREATEST_COUNT),
-            Wanted::Sole => Sink::Sole(WholeSole::Nothing),
-            Wanted::Values => Sink::Values(WholeValues::new(alloc)),
+        match demand {
+            Demand::Exists => Sink::Count(1, 1),
+            Demand::Count => Sink::Count(GREATEST_COUNT, GREATEST_COUNT),
+            Demand::Single => Sink::Single(WholeSingle::Nothing),
+            Demand::Values => Sink::Values(WholeValues::new(alloc)),
         }
     }
 
@@ -115,18 +119,23 @@ impl<'a, T: Queryable> Sink<'a, T> {
 
     /// Takes the value that this way leads to. The result says whether the walk goes on.
     #[inline(always)]
-    pub fn take(&mut self, alloc: Global, value: WholeRef<'a, T>, way: &mut Way<'_>) -> Walked<bool>
-        ensures gave { TakesAlong (self.old, way.old) (self.new, way.new) (node_of way.old.steps.items value.entry ∷ []) result }
-        ensures same { way.new.steps.items ≡ way.old.steps.items }
+    pub fn take(
+        &mut self,
+        alloc: Global,
+        value: WholeRef<'a, T>,
+        current_path: &mut CurrentPath<'_>,
+    ) -> WalkResult<bool>
+        ensures outcome { FeedsInSync (self.old, current_path.old) (self.new, current_path.new) (node_of current_path.old.steps.items value.entry ∷ []) result }
+        ensures same { current_path.new.steps.items ≡ current_path.old.steps.items }
         ensures memory { IfErr result (λ h. h ≡ Memory) }
     {
         match self {
             Sink::Nodes(nodes) => {
-                nodes.push(value, way.path(alloc)?)?;
+                nodes.push(value, current_path.path(alloc)?)?;
                 Ok(true)
             }
             Sink::Paths(paths) => {
-                paths.push(way.path(alloc)?)?;
+                paths.push(current_path.path(alloc)?)?;
                 Ok(true)
             }
             Sink::Values(values) => {
@@ -134,17 +143,17 @@ impl<'a, T: Queryable> Sink<'a, T> {
                 Ok(true)
             }
             Sink::Locations(locations) => {
-                locations.push(way.location(alloc)?)?;
+                locations.push(current_path.location(alloc)?)?;
                 Ok(true)
             }
-            Sink::Removal(removal, _copy) => {
-                removal.add_behind(alloc, &way.steps, way.settled)?;
-                way.settle();
+            Sink::LocationSet(removal, _copy) => {
+                removal.add_behind(alloc, &current_path.steps, current_path.shared_len)?;
+                current_path.mark_shared();
                 Ok(true)
             }
             Sink::Count(room, _most) => Ok(take_count(room)),
-            Sink::Sole(only) => Ok(take_sole(only, value)),
-            Sink::Few(first) => first.take(alloc, value, way),
+            Sink::Single(only) => Ok(take_sole(only, value)),
+            Sink::Few(first) => first.take(alloc, value, current_path),
         }
     }
 
@@ -153,23 +162,27 @@ impl<'a, T: Queryable> Sink<'a, T> {
     pub fn may_end(&self) -> bool {
         match self {
             Sink::Count(_, most) => *most == 1,
-            Sink::Sole(_) | Sink::Few(_) => true,
+            Sink::Single(_) | Sink::Few(_) => true,
             _ => false,
         }
     }
 
     /// What was wanted of the nodes that it was given. The sink is freed.
     #[inline(always)]
-    pub fn finish<'s>(self, wanted: Wanted) -> Given<'a, 's, T>
-        ensures { gave result ≡ finished wanted (seen self.entry) }
+    pub fn finish<'s>(self, demand: Demand) -> CachedResult<'a, 's, T>
+        ensures { result_view result ≡ finished demand (seen self.entry) }
     {
         match self {
-            Sink::Count(room, most) => Given::Value(wanted.of_count(most.saturating_sub(room))),
-            Sink::Sole(WholeSole::One(value)) => Given::Value(Operand::Side(Side::Lent(value))),
-            Sink::Values(values) => Given::Values(values),
+            Sink::Count(room, most) => CachedResult::Value(demand.of_count(most.saturating_sub(
+                room,
+            ))),
+            Sink::Single(WholeSingle::One(value)) => CachedResult::Value(FilterValue::Ref(
+                FilterValueRef::Borrowed(value),
+            )),
+            Sink::Values(values) => CachedResult::Values(values),
             other => {
                 drop(other);
-                Given::Value(Operand::Side(Side::Absent))
+                CachedResult::Value(FilterValue::Ref(FilterValueRef::Absent))
             }
         }
     }
@@ -227,12 +240,12 @@ impl<'a, T: Queryable> Sink<'a, T> {
         }
     }
 
-    /// What a `Removal` was given.
-    pub fn into_removal(self) -> Option<Box<Removal>>
-        ensures { option_map (λ r. (removal_set r.value, removal_count r.value)) result ≡ removal_in (seen self.entry) }
+    /// What a `LocationSet` was given.
+    pub fn into_removal(self) -> Option<Box<LocationSet>>
+        ensures { option_map (λ r. (location_set r.value, location_count r.value)) result ≡ location_set_in (seen self.entry) }
     {
         match self {
-            Sink::Removal(removal, _copy) => Some(removal),
+            Sink::LocationSet(removal, _copy) => Some(removal),
             other => {
                 drop(other);
                 None
@@ -257,7 +270,7 @@ impl<'a, T: Queryable> Sink<'a, T> {
 /// Counts a node: true, so that the walk goes on, if there is room for another.
 #[inline(always)]
 fn take_count(room: &mut usize) -> bool
-    ensures { (n : Node) (most : ℕ) → Took (counted room.old most) (n ∷ []) (counted room.new most) result }
+    ensures { (n : Node) (most : ℕ) → Fed (counted room.old most) (n ∷ []) (counted room.new most) result }
 {
     *room = room.saturating_sub(1);
     *room > 0
@@ -265,16 +278,16 @@ fn take_count(room: &mut usize) -> bool
 
 /// Takes a node: true, so that the walk goes on, if that is the first.
 #[inline(always)]
-fn take_sole<'a, T: Queryable>(only: &mut WholeSole<'a, T>, value: WholeRef<'a, T>) -> bool
-    ensures { (n : Node) → n.tree ≡ tree_of value.entry → Took (seen_sole only.old) (n ∷ []) (seen_sole only.new) result }
+fn take_sole<'a, T: Queryable>(only: &mut WholeSingle<'a, T>, value: WholeRef<'a, T>) -> bool
+    ensures { (n : Node) → n.tree ≡ tree_of value.entry → Fed (seen_sole only.old) (n ∷ []) (seen_sole only.new) result }
 {
     match only {
-        WholeSole::Nothing => {
-            *only = WholeSole::One(value);
+        WholeSingle::Nothing => {
+            *only = WholeSingle::One(value);
             true
         }
         _ => {
-            *only = WholeSole::Several;
+            *only = WholeSingle::Several;
             false
         }
     }
@@ -290,17 +303,65 @@ pub struct FirstNodes<'a, T: Queryable> {
 
 impl<'a, T: Queryable> FirstNodes<'a, T> {
     /// Takes a node, where there is room: true, so that the walk goes on, if there is room for another.
-    fn take(&mut self, alloc: Global, value: WholeRef<'a, T>, way: &mut Way<'_>) -> Walked<bool>
-        ensures gave { IfOk result (λ b. Took (seen_few self.old)
-            (node_of way.old.steps.items value.entry ∷ []) (seen_few self.new) b) }
-        ensures same { way.new.steps.items ≡ way.old.steps.items }
+    fn take(
+        &mut self,
+        alloc: Global,
+        value: WholeRef<'a, T>,
+        current_path: &mut CurrentPath<'_>,
+    ) -> WalkResult<bool>
+        ensures outcome { IfOk result (λ b. Fed (seen_few self.old)
+            (node_of current_path.old.steps.items value.entry ∷ []) (seen_few self.new) b) }
+        ensures same { current_path.new.steps.items ≡ current_path.old.steps.items }
         ensures memory { IfErr result (λ h. h ≡ Memory) }
     {
         if self.room == 0 {
             return Ok(false);
         }
-        self.nodes.push(value, way.path(alloc)?)?;
+        self.nodes.push(value, current_path.path(alloc)?)?;
         self.room -= 1;
         Ok(self.room > 0)
+    }
+}
+
+/// What is told of the only node that a query selects, where only one is wanted.
+///
+/// Nodes are counted and not values, so a node that is selected twice counts twice: of `$['a','a']` there are several,
+/// where there is an `a`.
+#[derive(Debug, Drop)]
+pub enum Only<'a, T> {
+    /// The query selects nothing.
+    Nothing,
+    /// It selects this node alone.
+    One(QueryRef<'a, T>),
+    /// It selects more than one.
+    Several,
+}
+
+impl<'a, T: Queryable> Only<'a, T> {
+    /// The node, if there is one alone.
+    pub fn one(self) -> Option<QueryRef<'a, T>>
+        ensures { result ≡ sole_node self.entry }
+    {
+        match self {
+            Only::Nothing => None,
+            Only::One(node) => Some(node),
+            Only::Several => None,
+        }
+    }
+}
+
+impl<'a, T: Queryable> WholeNodes<'a, T> {
+    /// What a caller is told of these nodes, where only one is wanted.
+    pub fn into_only(self) -> Only<'a, T>
+        ensures complete { IsOnlyOf T.tree (shown T.tree self.entry.list.items) result }
+        ensures whole { IfSome (sole_node result) (λ n. IsTrue (T.is_whole n.val.now)) }
+    {
+        let mut list = self.list;
+        let last = list.pop();
+        match (list.pop(), last) {
+            (None, None) => Only::Nothing,
+            (None, Some(node)) => Only::One(node),
+            (Some(_node), _) => Only::Several,
+        }
     }
 }

@@ -1,24 +1,22 @@
 //! The evaluator: a walk that meets the nodes of a query depth-first, in the order of its nodelist (RFC 9535, 2.1.2).
 //!
 //! The way to the value at hand stands on a stack of borrowed steps, so nothing is kept for a node that is only passed.
-//! Most methods of the cycle ask for a value at hand (`StandsAt`), those of constants only that what is kept is right
-//! (`IsReady`). Each comes back with the way as it was and what is kept still right (`Comes`). Where it halts, what is
+//! Most methods of the cycle ask for a value at hand (`IsPositionedAt`), those of constants only that what is kept is right
+//! (`IsCacheCorrect`). Each comes back with the way as it was and what is kept still right (`EndsProperly`). Where it halts, what is
 //! kept is right too, and it says why; the way may then be another.
-ghost use Rattle.std.specs.Prelude.{◌++◌};
-ghost use Rattle.jsonpath_base.specs.Prelude.Documents.{all_pick, picks, replaced, segment_patterns, segments_patterns, selector_patterns, selectors_patterns, sliced};
-ghost use Rattle.jsonpath_rust.specs.Prelude.Selection.{Comes, here, kept_of, node_at, onward_from, rest_patterns, segment_view, segments_meant, selector_view, selectors_meant, StandsAt, TakesAlong, through};
+ghost use Rattle.jsonpath_base.specs.Prelude.Documents.{Document, Location, all_pick, below, children, flat_map, lent_location, lent_step, picks, replaced, segment_patterns, segments_patterns, selector_patterns, selectors_patterns, sliced, subtree};
+ghost use Rattle.jsonpath_rust.specs.Prelude.Documents.{tree_of};
+ghost use Rattle.jsonpath_rust.specs.Prelude.Selection.{AreMembers, Constants, EndsProperly, FeedsInSync, GoesToEachChild, IsPositioned, IsPositionedAt, at_current, constants_of, continued_nodes, document, node_at, rest_patterns, segment_view, segments_meant, selected_from, selector_view, selectors_meant, visit_patterns, visited_nodes};
+ghost use Rattle.std.specs.Prelude.{IfSome, IsTrue, [], ◌++◌, ◌∷◌, ◌≡◌};
 
-use crate::documents::halt::Walked;
 use crate::documents::queryable::Queryable;
+use crate::documents::walk_error::WalkResult;
 use crate::documents::whole::WholeRef;
-use crate::selection::action::Action;
-use crate::selection::budget::Limit;
-use crate::selection::children::Child;
-use crate::selection::onward::Onward;
-use crate::selection::plan::{Plan, Segment, Selector};
+use crate::selection::constants::Cache;
+use crate::selection::limits::{Budget, WorkLimit};
+use crate::selection::plan::{Filter, Plan, Segment, Selector};
 use crate::selection::sink::Sink;
-use crate::selection::trail::Trail;
-use jsonpath_base::engine::StepRef;
+use jsonpath_base::engine::{CurrentPath, PatternCache, QueryMatchers, StepRef};
 use jsonpath_base::slice_places;
 use std::alloc::Global;
 
@@ -27,14 +25,110 @@ type Bounds = (Option<i64>, Option<i64>, Option<i64>);
 
 /// What is asked: a query by its plan, of a document, and whether the work for it is limited.
 #[derive(Drop)]
-pub struct Task<'a, 's, T: Queryable> {
+pub struct WalkContext<'a, 's, T: Queryable> {
     pub alloc: Global,
     pub plan: &'s Plan,
     pub root: WholeRef<'a, T>,
-    pub limit: Limit,
+    pub limit: WorkLimit,
 }
 
-impl<'a: 's, 's, T: Queryable> Task<'a, 's, T> {
+/// The way to the value at hand, what the call keeps, what asks its patterns, and the work that is left.
+#[derive(Drop)]
+pub struct WalkState<'a, 's, 'p, T: Queryable> {
+    pub current_path: CurrentPath<'s>,
+    pub cache: Cache<'a, 's, T>,
+    pub finders: PatternCache<'s, 'p>,
+    pub budget: Budget,
+}
+
+impl<'a, 's, 'p, T: Queryable> WalkState<'a, 's, 'p, T> {
+    /// At the root, with nothing kept.
+    pub fn new(alloc: Global, finders: PatternCache<'s, 'p>, budget: Budget) -> Self {
+        WalkState {
+            current_path: CurrentPath::new(alloc),
+            cache: Cache::empty(alloc),
+            finders,
+            budget,
+        }
+    }
+
+    /// What asks the patterns of the plan. All else is let go.
+    pub fn into_finders(self) -> QueryMatchers<'p> {
+        let finders = self.finders;
+        finders.query
+    }
+}
+
+/// What comes next, and the segments behind it, which go on from each node that it makes.
+#[derive(Clone, Copy)]
+pub struct Continuation<'s, N> {
+    pub next: N,
+    pub rest: &'s [Segment],
+}
+
+/// What is done at a value: at a child, and of `Below` also where the descent begins.
+#[derive(Clone, Copy)]
+pub enum Visit<'s> {
+    /// The rest.
+    Continue,
+    /// The rest, if the filter holds there.
+    Filter(&'s Filter),
+    /// The segment and then the rest, there and at each node below.
+    Descend(&'s Segment),
+}
+
+/// Whether the action surely makes no node of the value: a leaf has nothing below.
+#[inline(always)]
+pub fn is_idle<T: Queryable>(action: Visit<'_>, value: WholeRef<'_, T>) -> bool
+    ensures { IsTrue result → (constants : Constants) (d : Document) (l : Location) →
+        visited_nodes constants action.entry d (record { location = l; tree = tree_of value.entry }) ≡ [] }
+{
+    match action {
+        Visit::Descend(_) => value.is_leaf(),
+        _ => false,
+    }
+}
+
+/// How many units of work a look at so many children costs: two each for a filter, and else one.
+#[inline(always)]
+pub fn visit_cost(action: Visit<'_>, count: usize) -> usize {
+    match action {
+        Visit::Filter(_filter) => count.saturating_mul(2),
+        _ => count,
+    }
+}
+
+/// What a look at so many elements costs: what is spent before the first, and what at each. Where the walk may end at
+/// any node each is paid for when it is looked at, for the others may never be.
+#[inline(always)]
+pub fn element_costs<T: Queryable>(
+    action: Visit<'_>,
+    count: usize,
+    sink: &Sink<'_, T>,
+) -> (usize, usize) {
+    if sink.may_end() {
+        (0, visit_cost(action, 1))
+    } else {
+        (visit_cost(action, count), 0)
+    }
+}
+
+/// What the segment does at each child, where that is all it does.
+#[inline(always)]
+pub fn of_each_child(segment: &Segment) -> Option<Visit<'_>>
+    ensures { (constants : Constants) → IfSome result (GoesToEachChild constants (segment_view constants segment.now)) }
+{
+    match segment {
+        Segment::Selector(selector) => match selector {
+            Selector::Wildcard => Some(Visit::Continue),
+            Selector::Filter(filter) => Some(Visit::Filter(filter)),
+            _ => None,
+        },
+        _ => None,
+    }
+}
+
+impl<'a: 's, 's, T: Queryable> WalkContext<'a, 's, T> {
     /// Gives to the sink what the segments select from a value on, to which the way leads. The result says whether to
     /// go on. Where no segment is left the value is taken here, with no call for it.
     #[cycle(walk)]
@@ -43,20 +137,22 @@ impl<'a: 's, 's, T: Queryable> Task<'a, 's, T> {
         &self,
         segments: &'s [Segment],
         at: WholeRef<'a, T>,
-        trail: &mut Trail<'a, 's, '_, T>,
+        state: &mut WalkState<'a, 's, '_, T>,
         sink: &mut Sink<'a, T>,
-    ) -> Walked<bool>
-        requires { StandsAt self.now at trail.old }
-        ensures gave { TakesAlong (sink.old, trail.old.way) (sink.new, trail.new.way)
-            (here self.now trail.old at.entry (through (segments_meant (kept_of self.now) segments.now))) result }
-        ensures comes { Comes self.now trail.old trail.new (segments_patterns (segments_meant (kept_of self.now) segments.now)) result }
+    ) -> WalkResult<bool>
+        requires { IsPositionedAt self.now at state.old }
+        ensures outcome { FeedsInSync (sink.old, state.old.current_path) (sink.new, state.new.current_path)
+            (at_current self.now state.old at.entry (selected_from (segments_meant (constants_of self.now) segments.now))) result }
+        ensures comes { EndsProperly self.now state.old state.new (segments_patterns (segments_meant (constants_of self.now) segments.now)) result }
     {
         match segments.split_first() {
             None => {
-                trail.budget.spend_path(self.limit, sink, &trail.way)?;
-                sink.take(self.alloc, at, &mut trail.way)
+                state
+                    .budget
+                    .spend_path(self.limit, sink, &state.current_path)?;
+                sink.take(self.alloc, at, &mut state.current_path)
             }
-            Some((next, rest)) => self.pass(Onward { next, rest }, at, trail, sink),
+            Some((next, rest)) => self.pass(Continuation { next, rest }, at, state, sink),
         }
     }
 
@@ -65,29 +161,29 @@ impl<'a: 's, 's, T: Queryable> Task<'a, 's, T> {
     #[tactic(auto, using(crate::proofs::laws::selection::PlanEquations::plan_equations))]
     pub fn pass(
         &self,
-        onward: Onward<'s, &'s Segment>,
+        continuation: Continuation<'s, &'s Segment>,
         at: WholeRef<'a, T>,
-        trail: &mut Trail<'a, 's, '_, T>,
+        state: &mut WalkState<'a, 's, '_, T>,
         sink: &mut Sink<'a, T>,
-    ) -> Walked<bool>
-        requires { StandsAt self.now at trail.old }
-        ensures gave { TakesAlong (sink.old, trail.old.way) (sink.new, trail.new.way)
-            (onward_from self.now onward.entry
-            (here self.now trail.old at.entry
-            (replaced (segment_view (kept_of self.now) onward.entry.next.now)))) result }
-        ensures comes { Comes self.now trail.old trail.new
-            (segment_patterns (segment_view (kept_of self.now) onward.entry.next.now) ++ rest_patterns self.now onward.entry) result }
+    ) -> WalkResult<bool>
+        requires { IsPositionedAt self.now at state.old }
+        ensures outcome { FeedsInSync (sink.old, state.old.current_path) (sink.new, state.new.current_path)
+            (continued_nodes self.now continuation.entry
+            (at_current self.now state.old at.entry
+            (replaced (segment_view (constants_of self.now) continuation.entry.next.now)))) result }
+        ensures comes { EndsProperly self.now state.old state.new
+            (segment_patterns (segment_view (constants_of self.now) continuation.entry.next.now) ++ rest_patterns self.now continuation.entry) result }
     {
-        let rest = onward.rest;
-        match onward.next {
-            Segment::Selector(next) => self.pick(Onward { next, rest }, at, trail, sink),
+        let rest = continuation.rest;
+        match continuation.next {
+            Segment::Selector(next) => self.pick(Continuation { next, rest }, at, state, sink),
             Segment::Selectors(selectors) => {
                 let next = selectors.as_slice();
-                self.pick_each(Onward { next, rest }, at, trail, sink)
+                self.pick_each(Continuation { next, rest }, at, state, sink)
             }
             Segment::Descendant(inner) => {
-                let next = Action::Below(inner);
-                self.act(Onward { next, rest }, at, trail, sink)
+                let next = Visit::Descend(inner);
+                self.act(Continuation { next, rest }, at, state, sink)
             }
         }
     }
@@ -96,26 +192,26 @@ impl<'a: 's, 's, T: Queryable> Task<'a, 's, T> {
     #[cycle(walk)]
     fn pick_each(
         &self,
-        onward: Onward<'s, &'s [Selector]>,
+        continuation: Continuation<'s, &'s [Selector]>,
         at: WholeRef<'a, T>,
-        trail: &mut Trail<'a, 's, '_, T>,
+        state: &mut WalkState<'a, 's, '_, T>,
         sink: &mut Sink<'a, T>,
-    ) -> Walked<bool>
-        requires { StandsAt self.now at trail.old }
-        ensures gave { TakesAlong (sink.old, trail.old.way) (sink.new, trail.new.way)
-            (onward_from self.now onward.entry
-            (here self.now trail.old at.entry
-            (all_pick (selectors_meant (kept_of self.now) onward.entry.next.now)))) result }
-        ensures comes { Comes self.now trail.old trail.new
-            (selectors_patterns (selectors_meant (kept_of self.now) onward.entry.next.now) ++ rest_patterns self.now onward.entry) result }
+    ) -> WalkResult<bool>
+        requires { IsPositionedAt self.now at state.old }
+        ensures outcome { FeedsInSync (sink.old, state.old.current_path) (sink.new, state.new.current_path)
+            (continued_nodes self.now continuation.entry
+            (at_current self.now state.old at.entry
+            (all_pick (selectors_meant (constants_of self.now) continuation.entry.next.now)))) result }
+        ensures comes { EndsProperly self.now state.old state.new
+            (selectors_patterns (selectors_meant (constants_of self.now) continuation.entry.next.now) ++ rest_patterns self.now continuation.entry) result }
     {
-        trail.budget.spend(self.limit, onward.next.len())?;
-        for selector in onward.next {
-            let one = Onward {
+        state.budget.spend(self.limit, continuation.next.len())?;
+        for selector in continuation.next {
+            let one = Continuation {
                 next: selector,
-                rest: onward.rest,
+                rest: continuation.rest,
             };
-            if !self.pick(one, at, trail, sink)? {
+            if !self.pick(one, at, state, sink)? {
                 return Ok(false);
             }
         }
@@ -128,47 +224,47 @@ impl<'a: 's, 's, T: Queryable> Task<'a, 's, T> {
     #[inline(always)]
     fn pick(
         &self,
-        onward: Onward<'s, &'s Selector>,
+        continuation: Continuation<'s, &'s Selector>,
         at: WholeRef<'a, T>,
-        trail: &mut Trail<'a, 's, '_, T>,
+        state: &mut WalkState<'a, 's, '_, T>,
         sink: &mut Sink<'a, T>,
-    ) -> Walked<bool>
-        requires { StandsAt self.now at trail.old }
-        ensures gave { TakesAlong (sink.old, trail.old.way) (sink.new, trail.new.way)
-            (onward_from self.now onward.entry
-            (here self.now trail.old at.entry
-            (picks (selector_view (kept_of self.now) onward.entry.next.now)))) result }
-        ensures comes { Comes self.now trail.old trail.new
-            (selector_patterns (selector_view (kept_of self.now) onward.entry.next.now) ++ rest_patterns self.now onward.entry) result }
+    ) -> WalkResult<bool>
+        requires { IsPositionedAt self.now at state.old }
+        ensures outcome { FeedsInSync (sink.old, state.old.current_path) (sink.new, state.new.current_path)
+            (continued_nodes self.now continuation.entry
+            (at_current self.now state.old at.entry
+            (picks (selector_view (constants_of self.now) continuation.entry.next.now)))) result }
+        ensures comes { EndsProperly self.now state.old state.new
+            (selector_patterns (selector_view (constants_of self.now) continuation.entry.next.now) ++ rest_patterns self.now continuation.entry) result }
     {
-        let rest = onward.rest;
-        let all = Onward {
-            next: Action::All,
+        let rest = continuation.rest;
+        let all = Continuation {
+            next: Visit::Continue,
             rest,
         };
-        match onward.next {
+        match continuation.next {
             Selector::Name(name) => match at.member(name) {
                 Some(value) => {
                     let step = StepRef::Name(name);
-                    self.at_child(all, Child { step, value }, trail, sink)
+                    self.at_child(all, Child { step, value }, state, sink)
                 }
                 None => Ok(true),
             },
-            Selector::Wildcard => self.each_child(all, at, trail, sink),
+            Selector::Wildcard => self.each_child(all, at, state, sink),
             Selector::Index(index) => match at.element(*index) {
                 Some((position, value)) => {
                     let step = StepRef::Index(position);
-                    self.at_child(all, Child { step, value }, trail, sink)
+                    self.at_child(all, Child { step, value }, state, sink)
                 }
                 None => Ok(true),
             },
             Selector::Slice(start, end, step) => {
                 let next = (*start, *end, *step);
-                self.pick_slice(Onward { next, rest }, at, trail, sink)
+                self.pick_slice(Continuation { next, rest }, at, state, sink)
             }
             Selector::Filter(filter) => {
-                let next = Action::If(filter);
-                self.each_child(Onward { next, rest }, at, trail, sink)
+                let next = Visit::Filter(filter);
+                self.each_child(Continuation { next, rest }, at, state, sink)
             }
         }
     }
@@ -177,36 +273,223 @@ impl<'a: 's, 's, T: Queryable> Task<'a, 's, T> {
     #[cycle(walk)]
     fn pick_slice(
         &self,
-        onward: Onward<'s, Bounds>,
+        continuation: Continuation<'s, Bounds>,
         at: WholeRef<'a, T>,
-        trail: &mut Trail<'a, 's, '_, T>,
+        state: &mut WalkState<'a, 's, '_, T>,
         sink: &mut Sink<'a, T>,
-    ) -> Walked<bool>
-        requires { StandsAt self.now at trail.old }
-        ensures gave { TakesAlong (sink.old, trail.old.way) (sink.new, trail.new.way)
-            (onward_from self.now onward.entry
-            (sliced onward.entry.next.0 onward.entry.next.1 onward.entry.next.2
-            (node_at trail.old at.entry))) result }
-        ensures comes { Comes self.now trail.old trail.new (rest_patterns self.now onward.entry) result }
+    ) -> WalkResult<bool>
+        requires { IsPositionedAt self.now at state.old }
+        ensures outcome { FeedsInSync (sink.old, state.old.current_path) (sink.new, state.new.current_path)
+            (continued_nodes self.now continuation.entry
+            (sliced continuation.entry.next.0 continuation.entry.next.1 continuation.entry.next.2
+            (node_at state.old at.entry))) result }
+        ensures comes { EndsProperly self.now state.old state.new (rest_patterns self.now continuation.entry) result }
     {
         let Some(items) = at.elements() else {
             return Ok(true);
         };
-        let (start, end, step) = onward.next;
-        let all = Onward {
-            next: Action::All,
-            rest: onward.rest,
+        let (start, end, step) = continuation.next;
+        let all = Continuation {
+            next: Visit::Continue,
+            rest: continuation.rest,
         };
         for position in slice_places(start, end, step, items.len()) {
-            trail.budget.spend(self.limit, 1)?;
+            state.budget.spend(self.limit, 1)?;
             let step = StepRef::Index(position);
             let value = WholeRef {
                 value: &items[position],
             };
-            if !self.at_child(all, Child { step, value }, trail, sink)? {
+            if !self.at_child(all, Child { step, value }, state, sink)? {
                 return Ok(false);
             }
         }
         Ok(true)
+    }
+}
+
+/// A child of the value at hand, and the step that leads to it.
+#[derive(Clone, Copy)]
+pub struct Child<'a, 's, T: Queryable> {
+    pub step: StepRef<'s>,
+    pub value: WholeRef<'a, T>,
+}
+
+/// An object, and its members in walk order.
+#[derive(Drop)]
+pub struct Members<'a, 'm, T: Queryable> {
+    pub of: WholeRef<'a, T>,
+    pub list: &'m [(&'a str, &'a T)],
+}
+
+impl<'a: 's, 's, T: Queryable> WalkContext<'a, 's, T> {
+    /// The action at each child, in walk order.
+    #[cycle(walk)]
+    pub fn each_child(
+        &self,
+        continuation: Continuation<'s, Visit<'s>>,
+        at: WholeRef<'a, T>,
+        state: &mut WalkState<'a, 's, '_, T>,
+        sink: &mut Sink<'a, T>,
+    ) -> WalkResult<bool>
+        requires { IsPositionedAt self.now at state.old }
+        ensures outcome { FeedsInSync (sink.old, state.old.current_path) (sink.new, state.new.current_path)
+            (continued_nodes self.now continuation.entry
+            (flat_map (visited_nodes (constants_of self.now) continuation.entry.next (document self.now))
+            (children (node_at state.old at.entry)))) result }
+        ensures comes { EndsProperly self.now state.old state.new
+            (visit_patterns (constants_of self.now) continuation.entry.next ++ rest_patterns self.now continuation.entry) result }
+    {
+        if let Some(items) = at.elements() {
+            let (all, each) = element_costs(continuation.next, items.len(), sink);
+            state.budget.spend(self.limit, all)?;
+            for (i, value) in items.iter().enumerate() {
+                state.budget.spend_some(self.limit, each)?;
+                let step = StepRef::Index(i);
+                let value = WholeRef { value };
+                if !self.at_child(continuation, Child { step, value }, state, sink)? {
+                    return Ok(false);
+                }
+            }
+        } else if let Some(listed) = at.members(self.alloc)? {
+            let members = Members {
+                of: at,
+                list: &listed,
+            };
+            return self.each_member(continuation, &members, state, sink);
+        }
+        Ok(true)
+    }
+
+    /// The action at each member, in walk order.
+    #[cycle(walk)]
+    fn each_member(
+        &self,
+        continuation: Continuation<'s, Visit<'s>>,
+        members: &Members<'a, '_, T>,
+        state: &mut WalkState<'a, 's, '_, T>,
+        sink: &mut Sink<'a, T>,
+    ) -> WalkResult<bool>
+        requires stands { IsPositionedAt self.now members.now.of state.old }
+        requires listed { AreMembers members.now }
+        ensures outcome { FeedsInSync (sink.old, state.old.current_path) (sink.new, state.new.current_path)
+            (continued_nodes self.now continuation.entry
+            (flat_map (visited_nodes (constants_of self.now) continuation.entry.next (document self.now))
+            (children (node_at state.old members.now.of)))) result }
+        ensures comes { EndsProperly self.now state.old state.new
+            (visit_patterns (constants_of self.now) continuation.entry.next ++ rest_patterns self.now continuation.entry) result }
+    {
+        let cost = visit_cost(continuation.next, members.list.len());
+        state.budget.spend(self.limit, cost)?;
+        for member in members.list {
+            let step = StepRef::Name(member.0);
+            let value = WholeRef { value: member.1 };
+            if !self.at_child(continuation, Child { step, value }, state, sink)? {
+                return Ok(false);
+            }
+        }
+        Ok(true)
+    }
+
+    /// The action at a child, a step from here.
+    #[cycle(walk)]
+    #[inline(always)]
+    pub fn at_child(
+        &self,
+        continuation: Continuation<'s, Visit<'s>>,
+        child: Child<'a, 's, T>,
+        state: &mut WalkState<'a, 's, '_, T>,
+        sink: &mut Sink<'a, T>,
+    ) -> WalkResult<bool>
+        requires { IsPositioned self.now child.value (state.old.current_path.steps.items ++ child.step ∷ []) state.old.cache }
+        ensures outcome { FeedsInSync (sink.old, state.old.current_path) (sink.new, state.new.current_path)
+            (continued_nodes self.now continuation.entry
+            (visited_nodes (constants_of self.now) continuation.entry.next (document self.now)
+            (below (lent_location state.old.current_path.steps.items) (lent_step child.entry.step)
+            (tree_of child.entry.value)))) result }
+        ensures comes { EndsProperly self.now state.old state.new
+            (visit_patterns (constants_of self.now) continuation.entry.next ++ rest_patterns self.now continuation.entry) result }
+    {
+        if is_idle(continuation.next, child.value) {
+            return Ok(true);
+        }
+        state.current_path.push(child.step)?;
+        let goes_on = self.act(continuation, child.value, state, sink)?;
+        state.current_path.pop();
+        Ok(goes_on)
+    }
+
+    /// Does the action at this value, and gives the rest from each node that it makes of it.
+    #[cycle(walk)]
+    #[inline(always)]
+    pub fn act(
+        &self,
+        continuation: Continuation<'s, Visit<'s>>,
+        at: WholeRef<'a, T>,
+        state: &mut WalkState<'a, 's, '_, T>,
+        sink: &mut Sink<'a, T>,
+    ) -> WalkResult<bool>
+        requires { IsPositionedAt self.now at state.old }
+        ensures outcome { FeedsInSync (sink.old, state.old.current_path) (sink.new, state.new.current_path)
+            (continued_nodes self.now continuation.entry (at_current self.now state.old at.entry (visited_nodes (constants_of self.now) continuation.entry.next))) result }
+        ensures comes { EndsProperly self.now state.old state.new
+            (visit_patterns (constants_of self.now) continuation.entry.next ++ rest_patterns self.now continuation.entry) result }
+    {
+        let rest = continuation.rest;
+        match continuation.next {
+            Visit::Continue => self.walk(rest, at, state, sink),
+            Visit::Filter(filter) => {
+                // The walks of a filter settle no step, and this shows the prover that none is.
+                let shared_len = state.current_path.shared_len;
+                let holds = self.is_met(filter, at, state)?;
+                state.current_path.limit_shared(shared_len);
+                if holds {
+                    self.walk(rest, at, state, sink)
+                } else {
+                    Ok(true)
+                }
+            }
+            Visit::Descend(next) => self.descend(Continuation { next, rest }, at, state, sink),
+        }
+    }
+
+    /// The segment and then the rest, here and at each node below. Where the segment goes to each child, the members of
+    /// an object are listed once for both.
+    #[cycle(walk)]
+    fn descend(
+        &self,
+        continuation: Continuation<'s, &'s Segment>,
+        at: WholeRef<'a, T>,
+        state: &mut WalkState<'a, 's, '_, T>,
+        sink: &mut Sink<'a, T>,
+    ) -> WalkResult<bool>
+        requires { IsPositionedAt self.now at state.old }
+        ensures outcome { FeedsInSync (sink.old, state.old.current_path) (sink.new, state.new.current_path)
+            (continued_nodes self.now continuation.entry
+            (flat_map (replaced (segment_view (constants_of self.now) continuation.entry.next.now)
+            (document self.now)) (subtree (node_at state.old at.entry)))) result }
+        ensures comes { EndsProperly self.now state.old state.new
+            (segment_patterns (segment_view (constants_of self.now) continuation.entry.next.now) ++ rest_patterns self.now continuation.entry) result }
+    {
+        let rest = continuation.rest;
+        let further = Continuation {
+            next: Visit::Descend(continuation.next),
+            rest,
+        };
+        if let Some(next) = of_each_child(continuation.next) {
+            if let Some(listed) = at.members(self.alloc)? {
+                let members = Members {
+                    of: at,
+                    list: &listed,
+                };
+                if !self.each_member(Continuation { next, rest }, &members, state, sink)? {
+                    return Ok(false);
+                }
+                return self.each_member(further, &members, state, sink);
+            }
+        }
+        if !self.pass(continuation, at, state, sink)? {
+            return Ok(false);
+        }
+        self.each_child(further, at, state, sink)
     }
 }

@@ -14,14 +14,14 @@ pub mod single;
 pub mod singular;
 pub mod test;
 
-use crate::documents::halt::Walked;
 use crate::documents::queryable::Queryable;
+use crate::documents::walk_error::WalkResult;
 use crate::documents::whole::WholeRef;
 use crate::states::held::WholeData;
 use std::alloc::Global;
 
 /// What a part of a query returns, or why it halts.
-pub type Returned<'a, T> = Walked<WholeData<'a, T>>;
+pub type Returned<'a, T> = WalkResult<WholeData<'a, T>>;
 
 /// What evaluates the parts of a query: the root of the document, and what allocates.
 #[derive(Drop)]

@@ -11,11 +11,11 @@ ghost use Rattle.jsonpath_base.specs.documents.State.{Content, value, content_of
 ghost use Rattle.jsonpath_rust.specs.states.inner.Evaluating.{content_at, document, HaltsAt, HaltsBelow};
 
 use crate::documents::Queried;
-use crate::documents::halt::Walked;
 use crate::documents::queryable::Queryable;
+use crate::documents::walk_error::WalkResult;
 use crate::documents::whole::WholeRef;
 use crate::states::evaluate::Evaluation;
-use crate::states::evaluate::segments::Part;
+use crate::states::evaluate::segments::NodeOperation;
 use crate::states::evaluate::single::literal_data;
 use crate::states::held::WholeData;
 use crate::states::state::State;
@@ -76,7 +76,7 @@ fn begun<'a, T: Queryable>(
 
 impl<'a, T: Queryable> Evaluation<'a, T> {
     /// The state of what was returned, or what a caller is told.
-    fn answered(&self, answer: Walked<WholeData<'a, T>>) -> Answered<'a, T>
+    fn state_of(&self, answer: WalkResult<WholeData<'a, T>>) -> Answered<'a, T>
         ensures content { (c : Content) → IfOk answer.entry (λ d. content_at d ≡ c) → IfOk result (λ s. content_of T.tree s.content ≡ c) }
         ensures root { IfOk result (λ s. s.root.now ≡ self.now.root.value.now) }
         ensures whole { IfOk result (λ s. DataIsWhole T.is_whole s.content) }
@@ -92,7 +92,7 @@ impl<'a, T: Queryable> Evaluation<'a, T> {
                 content: found.content,
                 root: self.root.value,
             }),
-            Err(halt) => Err(halt.told(self.alloc)),
+            Err(halt) => Err(halt.into_error(self.alloc)),
         }
     }
 }
@@ -105,7 +105,7 @@ impl Query for JpQuery {
 
     fn process<'a, T: Queryable>(&self, alloc: Global, state: State<'a, T>) -> Answered<'a, T> {
         let (at, given) = begun(alloc, state);
-        at.answered(at.segments_data(&self.segments, given))
+        at.state_of(at.segments_data(&self.segments, given))
     }
 }
 
@@ -117,7 +117,7 @@ impl Query for Vec<Segment> {
 
     fn process<'a, T: Queryable>(&self, alloc: Global, state: State<'a, T>) -> Answered<'a, T> {
         let (at, given) = begun(alloc, state);
-        at.answered(at.segments_data(self, given))
+        at.state_of(at.segments_data(self, given))
     }
 }
 
@@ -130,7 +130,7 @@ impl Query for Segment {
 
     fn process<'a, T: Queryable>(&self, alloc: Global, state: State<'a, T>) -> Answered<'a, T> {
         let (at, given) = begun(alloc, state);
-        at.answered(at.segment_data(self, given))
+        at.state_of(at.segment_data(self, given))
     }
 }
 
@@ -142,7 +142,7 @@ impl Query for Selector {
 
     fn process<'a, T: Queryable>(&self, alloc: Global, state: State<'a, T>) -> Answered<'a, T> {
         let (at, given) = begun(alloc, state);
-        at.answered(at.selector_data(self, given))
+        at.state_of(at.selector_data(self, given))
     }
 }
 
@@ -154,7 +154,7 @@ impl Query for Filter {
 
     fn process<'a, T: Queryable>(&self, alloc: Global, state: State<'a, T>) -> Answered<'a, T> {
         let (at, given) = begun(alloc, state);
-        at.answered(at.each_target(Part::Kept(self), given))
+        at.state_of(at.each_target(NodeOperation::Kept(self), given))
     }
 }
 
@@ -166,7 +166,7 @@ impl Query for FilterAtom {
 
     fn process<'a, T: Queryable>(&self, alloc: Global, state: State<'a, T>) -> Answered<'a, T> {
         let (at, given) = begun(alloc, state);
-        at.answered(at.atom_data(self, &given))
+        at.state_of(at.atom_data(self, &given))
     }
 }
 
@@ -178,7 +178,7 @@ impl Query for Comparison {
 
     fn process<'a, T: Queryable>(&self, alloc: Global, state: State<'a, T>) -> Answered<'a, T> {
         let (at, given) = begun(alloc, state);
-        at.answered(at.comparison_data(self, &given))
+        at.state_of(at.comparison_data(self, &given))
     }
 }
 
@@ -190,7 +190,7 @@ impl Query for Comparable {
 
     fn process<'a, T: Queryable>(&self, alloc: Global, state: State<'a, T>) -> Answered<'a, T> {
         let (at, given) = begun(alloc, state);
-        at.answered(at.comparable_data(self, &given))
+        at.state_of(at.comparable_data(self, &given))
     }
 }
 
@@ -202,7 +202,7 @@ impl Query for SingularQuery {
 
     fn process<'a, T: Queryable>(&self, alloc: Global, state: State<'a, T>) -> Answered<'a, T> {
         let (at, given) = begun(alloc, state);
-        at.answered(at.singular_data(self, &given))
+        at.state_of(at.singular_data(self, &given))
     }
 }
 
@@ -214,7 +214,7 @@ impl Query for SingularQuerySegment {
 
     fn process<'a, T: Queryable>(&self, alloc: Global, state: State<'a, T>) -> Answered<'a, T> {
         let (at, given) = begun(alloc, state);
-        at.answered(at.step_data(self, given))
+        at.state_of(at.step_data(self, given))
     }
 }
 
@@ -226,7 +226,7 @@ impl Query for Vec<SingularQuerySegment> {
 
     fn process<'a, T: Queryable>(&self, alloc: Global, state: State<'a, T>) -> Answered<'a, T> {
         let (at, given) = begun(alloc, state);
-        at.answered(at.steps_data(self, given))
+        at.state_of(at.steps_data(self, given))
     }
 }
 
@@ -238,7 +238,7 @@ impl Query for Literal {
 
     fn process<'a, T: Queryable>(&self, alloc: Global, state: State<'a, T>) -> Answered<'a, T> {
         let (at, _given) = begun(alloc, state);
-        at.answered(literal_data(alloc, self))
+        at.state_of(literal_data(alloc, self))
     }
 }
 
@@ -250,7 +250,7 @@ impl Query for Test {
 
     fn process<'a, T: Queryable>(&self, alloc: Global, state: State<'a, T>) -> Answered<'a, T> {
         let (at, given) = begun(alloc, state);
-        at.answered(at.test_data(self, &given))
+        at.state_of(at.test_data(self, &given))
     }
 }
 
@@ -262,7 +262,7 @@ impl Query for TestFunction {
 
     fn process<'a, T: Queryable>(&self, alloc: Global, state: State<'a, T>) -> Answered<'a, T> {
         let (at, given) = begun(alloc, state);
-        at.answered(at.call_data(self, &given))
+        at.state_of(at.call_data(self, &given))
     }
 }
 
@@ -274,7 +274,7 @@ impl Query for FnArg {
 
     fn process<'a, T: Queryable>(&self, alloc: Global, state: State<'a, T>) -> Answered<'a, T> {
         let (at, given) = begun(alloc, state);
-        at.answered(at.argument_data(self, &given))
+        at.state_of(at.argument_data(self, &given))
     }
 }
 

@@ -2,7 +2,7 @@
 use Rattle.std.proofs.Common.{◌≡◌, ℕ, suc, ℤ, List, [], ◌∷◌, ◌++◌, length, map, true, false, ◌&&◌, ◌||◌, ◌⊎◌, inl, inr, Option, Some, None, option_and_then, option_to_list, IsTrue, All, append-nil, append_assoc, refl, sym, ap, ◌∙◌, subst}
 use Rattle.std.proofs.lemmas.Bool.{and_parts, false≢true}
 use Rattle.std.proofs.lemmas.List.Elements.{All-from_recursion, All-map, All-weaker, filter_agree}
-use Rattle.jsonpath_base.specs.Prelude.Documents.{absolute, AgreeAt, all_applied, all_pick, all_trees, AllByRecursion, and, answer, argued, Argument, argument, Arguments, as_list, as_nodes, as_trees, as_truth, as_value, at, Begins, below, Call, call, child, children, children_at, compare, compares, count_call, count_of, custom_call, descendant, Document, each_holds, element, element_nodes, element_of, elements, Filter, filter_argument, filter_then, Filters, fixed_part, fixed_step, flat_map, followed, group, holds, index, is_matched, length_call, length_of, list, literal_argument, LocalIsConfined, Location, match_call, member_nodes, member_subtrees, Members, name, negated, no_arguments, no_filters, no_members, no_segments, no_selectors, no_trees, Node, nodelist, null, number, object, of_nodes, of_value, one, only_value, option_map_or, or, pairs, picks, Query, relative, replaced, root_node, search_call, Segment, segment, Segments, selected, SelectedBeginsWithFixedPart, Selector, selector, Selectors, several, SingularSelectsOneAtMost, slice, slice_of, some_holds, Step, subtree, subtree_at, subtrees_at, Test, test, test_argument, tested, text, Tree, Trees, truth, value_call, wildcard}
+use Rattle.jsonpath_base.specs.Prelude.Documents.{absolute, AgreeAt, all_applied, all_pick, all_trees, AllByRecursion, and, answer, argued, Argument, argument, Arguments, as_list, as_nodes, as_trees, as_truth, as_value, at, Begins, below, Call, call, child, children, children_at, compare, compares, count_call, count_of, custom_call, descendant, Document, each_holds, element, element_nodes, element_of, elements, Filter, filter_argument, filter_then, Filters, constant_prefix, fixed_step, flat_map, followed, group, holds, index, is_matched, length_call, length_of, list, literal_argument, LocalIsConfined, Location, match_call, member_nodes, member_subtrees, Members, name, negated, no_arguments, no_filters, no_members, no_segments, no_selectors, no_trees, Node, nodelist, null, number, object, of_nodes, of_value, one, only_value, option_map_or, or, pairs, picks, Query, relative, replaced, root_node, search_call, Segment, segment, Segments, selected, SelectedBeginsWithFixedPart, Selector, selector, Selectors, several, SingularSelectsOneAtMost, slice, slice_of, some_holds, Step, subtree, subtree_at, subtrees_at, Test, test, test_argument, tested, text, Tree, Trees, truth, value_call, wildcard}
 use Rattle.jsonpath_parser.specs.tree.Reach.{is_local, locality}
 use Rattle.jsonpath_parser.specs.tree.Typing.{over_argument, over_arguments, over_call, over_filter, over_filters, over_segment, over_selector, over_selectors, over_test}
 use Rattle.jsonpath_parser.specs.tree.Syntax as syntax
@@ -106,17 +106,17 @@ abbrev nodes_at : Location → Option Tree → List Node
 nodes_at l o = map (node_at l) (option_to_list o)
 
 abbrev LeadsOn : Segments → Document → Node → Type 0
-LeadsOn gs d n = all_applied gs d (n ∷ []) ≡ all_applied (behind gs) d (nodes_at (n.location ++ fixed_part gs) (at (fixed_part gs) n.tree))
+LeadsOn gs d n = all_applied gs d (n ∷ []) ≡ all_applied (behind gs) d (nodes_at (n.location ++ constant_prefix gs) (at (constant_prefix gs) n.tree))
 
 leads_by : (g : Segment) (gs : Segments) (d : Document) (n : Node) (o : Option Step) → fixed_step g ≡ o → ((m : Node) → LeadsOn gs d m)
-    → all_applied gs d (replaced g d n ++ []) ≡ all_applied (option_map_or (λ s. behind gs) o (segment g gs)) d (nodes_at (n.location ++ option_map_or (λ s. s ∷ fixed_part gs) o []) (at (option_map_or (λ s. s ∷ fixed_part gs) o []) n.tree))
+    → all_applied gs d (replaced g d n ++ []) ≡ all_applied (option_map_or (λ s. behind gs) o (segment g gs)) d (nodes_at (n.location ++ option_map_or (λ s. s ∷ constant_prefix gs) o []) (at (option_map_or (λ s. s ∷ constant_prefix gs) o []) n.tree))
 leads_by g gs d n None is more = ap (λ l. all_applied (segment g gs) d (node_at l n.tree ∷ [])) (sym (append-nil n.location))
 leads_by g gs d n (Some s) is more =
     ap (all_applied gs d) (append-nil (replaced g d n) ∙ ap (λ h. replaced h d n) (step_is g s is) ∙ step-child s d n) ∙ by_child (child s n.tree)
   where
-    by_child : (o : Option Tree) → all_applied gs d (map (below n.location s) (option_to_list o)) ≡ all_applied (behind gs) d (nodes_at (n.location ++ s ∷ fixed_part gs) (option_and_then (at (fixed_part gs)) o))
+    by_child : (o : Option Tree) → all_applied gs d (map (below n.location s) (option_to_list o)) ≡ all_applied (behind gs) d (nodes_at (n.location ++ s ∷ constant_prefix gs) (option_and_then (at (constant_prefix gs)) o))
     by_child None = applied_to_none gs d ∙ sym (applied_to_none (behind gs) d)
-    by_child (Some t) = more (below n.location s t) ∙ ap (λ l. all_applied (behind gs) d (nodes_at l (at (fixed_part gs) t))) (append_assoc n.location (s ∷ []) (fixed_part gs))
+    by_child (Some t) = more (below n.location s t) ∙ ap (λ l. all_applied (behind gs) d (nodes_at l (at (constant_prefix gs) t))) (append_assoc n.location (s ∷ []) (constant_prefix gs))
 
 leads : (gs : Segments) (d : Document) (n : Node) → LeadsOn gs d n
 leads no_segments d n = ap (λ l. node_at l n.tree ∷ []) (sym (append-nil n.location))
@@ -126,14 +126,14 @@ in_nodes_at : (l : Location) (o : Option Tree) → AllByRecursion (IsIn l) (node
 in_nodes_at l None = tt
 in_nodes_at l (Some t) = (([], sym (append-nil l)), tt)
 
-in_fixed_part : (q : Query) (d : Document) → AllByRecursion (IsIn (fixed_part q)) (nodelist q d)
+in_fixed_part : (q : Query) (d : Document) → AllByRecursion (IsIn (constant_prefix q)) (nodelist q d)
 in_fixed_part q d =
-    let P : List Node → Type 0 = AllByRecursion (IsIn (fixed_part q)) in
-    subst P (sym (leads q d (root_node d.root))) (in_all_applied (fixed_part q) (behind q) d (nodes_at (fixed_part q) (at (fixed_part q) d.root)) (in_nodes_at (fixed_part q) (at (fixed_part q) d.root)))
+    let P : List Node → Type 0 = AllByRecursion (IsIn (constant_prefix q)) in
+    subst P (sym (leads q d (root_node d.root))) (in_all_applied (constant_prefix q) (behind q) d (nodes_at (constant_prefix q) (at (constant_prefix q) d.root)) (in_nodes_at (constant_prefix q) (at (constant_prefix q) d.root)))
 
 pub selected_begins_with_fixed_part : SelectedBeginsWithFixedPart
 selected_begins_with_fixed_part q d =
-    All-map (Begins (fixed_part q)) (λ (n : Node). n.location) (nodelist q d) (All-from_recursion (IsIn (fixed_part q)) (nodelist q d) (in_fixed_part q d))
+    All-map (Begins (constant_prefix q)) (λ (n : Node). n.location) (nodelist q d) (All-from_recursion (IsIn (constant_prefix q)) (nodelist q d) (in_fixed_part q d))
 
 -- ---- what is local depends on the node and on the custom functions alone
 
@@ -229,11 +229,11 @@ local_behind (segment g gs) h = of_step (fixed_step g) (local_behind gs (and_par
     of_step None rest = h
     of_step (Some s) rest = rest
 
-nodes_alike : (q : Query) (d e : Document) → IsTrue (is_local q) → AgreeAt (fixed_part q) d e → nodelist q d ≡ nodelist q e
+nodes_alike : (q : Query) (d e : Document) → IsTrue (is_local q) → AgreeAt (constant_prefix q) d e → nodelist q d ≡ nodelist q e
 nodes_alike q d e h agree =
     leads q d (root_node d.root)
-    ∙ ap (λ o. all_applied (behind q) d (nodes_at (fixed_part q) o)) agree.value
-    ∙ applied_alike (behind q) d e (nodes_at (fixed_part q) (at (fixed_part q) e.root)) agree.custom (local_behind q h)
+    ∙ ap (λ o. all_applied (behind q) d (nodes_at (constant_prefix q) o)) agree.value
+    ∙ applied_alike (behind q) d e (nodes_at (constant_prefix q) (at (constant_prefix q) e.root)) agree.custom (local_behind q h)
     ∙ sym (leads q e (root_node e.root))
 
 -- where two documents agree, they agree below
@@ -246,12 +246,12 @@ agree_below part l d e h agree = record {
 all_further : (part front l : Location) → Begins part front → Begins front l → Begins part l
 all_further part front l h k = (h.0 ++ k.0, k.1 ∙ ap (λ m. m ++ k.0) h.1 ∙ append_assoc part h.0 k.0)
 
-inside_part : (q : Query) (part : Location) (d : Document) → Begins part (fixed_part q) → All (Begins part) (selected q d)
-inside_part q part d h = All-weaker (Begins (fixed_part q)) (Begins part) (λ l k. all_further part (fixed_part q) l h k) (selected q d) (selected_begins_with_fixed_part q d)
+inside_part : (q : Query) (part : Location) (d : Document) → Begins part (constant_prefix q) → All (Begins part) (selected q d)
+inside_part q part d h = All-weaker (Begins (constant_prefix q)) (Begins part) (λ l k. all_further part (constant_prefix q) l h k) (selected q d) (selected_begins_with_fixed_part q d)
 
 pub local_is_confined : LocalIsConfined
 local_is_confined q part h begun = record {
   inside = λ d. inside_part q part d begun;
-  locations = λ d e agree. ap (map (λ (n : Node). n.location)) (nodes_alike q d e h (agree_below part (fixed_part q) d e begun agree));
+  locations = λ d e agree. ap (map (λ (n : Node). n.location)) (nodes_alike q d e h (agree_below part (constant_prefix q) d e begun agree));
   values = λ d e agree. All-weaker (Begins part) (λ l. at l d.root ≡ at l e.root) (λ l k. (agree_below part l d e k agree).value) (selected q d) (inside_part q part d begun);
 }

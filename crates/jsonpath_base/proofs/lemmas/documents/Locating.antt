@@ -2,7 +2,7 @@
 use Rattle.std.proofs.Common.{◌≡◌, ℕ, suc, pos, negsuc, arith, length, List, [], ◌∷◌, map, Option, Some, None, Result, Ok, Err, IsSome, IfOk, IfErr, MatchResult, refl, sym, ap, ◌∙◌, subst}
 use Rattle.std.proofs.lemmas.List.{length-map}
 use Rattle.std.proofs.lemmas.List.Elements.{All-from_recursion}
-use Rattle.jsonpath_base.specs.Prelude.Documents.{AllByRecursion, at, descendant, Document, fixed_part, fixed_step, index, IsLocationOf, JsonPathError, Location, location_view, name, no_segments, Node, nodelist, NormalizedPathDerivesItsSteps, one, option_map_or, OutOfMemory, owned_step, Query, query_view, Segment, segment, Segments, segments_in, selected, SelectedIsThere, Selector, several, Step, step_segment, steps_query, StepsSelectTheirLocation, Tree}
+use Rattle.jsonpath_base.specs.Prelude.Documents.{AllByRecursion, at, descendant, Document, constant_prefix, fixed_step, index, IsLocationOf, JsonPathError, Location, location_view, name, no_segments, Node, nodelist, NormalizedPathDerivesItsSteps, one, option_map_or, OutOfMemory, owned_step, Query, query_view, Segment, segment, Segments, segments_in, selected, SelectedIsThere, Selector, several, Step, step_segment, steps_query, StepsSelectTheirLocation, Tree}
 use Rattle.jsonpath_parser.proofs.NormalQueries.{normal_derives}
 use Rattle.jsonpath_parser.proofs.laws.tree.ViewEquations.{query_view-segments}
 use Rattle.jsonpath_parser.specs.tree.Syntax as syntax
@@ -26,10 +26,10 @@ step_is (several ss) s e = absurd cc
 step_is (descendant g) s e = absurd cc
 
 -- the fixed part of a location's query is the location
-fixed_steps : (l : Location) → fixed_part (steps_query l) ≡ l
-fixed_steps [] = refl
-fixed_steps (name k ∷ ss) = ap (λ l. name k ∷ l) (fixed_steps ss)
-fixed_steps (index i ∷ ss) = ap (λ l. index i ∷ l) (fixed_steps ss)
+prefix_of_steps : (l : Location) → constant_prefix (steps_query l) ≡ l
+prefix_of_steps [] = refl
+prefix_of_steps (name k ∷ ss) = ap (λ l. name k ∷ l) (prefix_of_steps ss)
+prefix_of_steps (index i ∷ ss) = ap (λ l. index i ∷ l) (prefix_of_steps ss)
 
 abbrev segment_count : Segments → ℕ
 segment_count no_segments = 0
@@ -43,33 +43,33 @@ count_steps : (l : Location) → segment_count (steps_query l) ≡ length l
 count_steps [] = refl
 count_steps (s ∷ ss) = ap suc (count_steps ss)
 
-all_fixed_by : (g : Segment) (gs : Segments) (n : ℕ) (o : Option Step) → fixed_step g ≡ o → (length (fixed_part gs) ≡ n → gs ≡ steps_query (fixed_part gs))
-    → length (option_map_or (λ s. s ∷ fixed_part gs) o []) ≡ suc n → segment g gs ≡ steps_query (option_map_or (λ s. s ∷ fixed_part gs) o [])
+all_fixed_by : (g : Segment) (gs : Segments) (n : ℕ) (o : Option Step) → fixed_step g ≡ o → (length (constant_prefix gs) ≡ n → gs ≡ steps_query (constant_prefix gs))
+    → length (option_map_or (λ s. s ∷ constant_prefix gs) o []) ≡ suc n → segment g gs ≡ steps_query (option_map_or (λ s. s ∷ constant_prefix gs) o [])
 all_fixed_by g gs n None is more e = absurd (omega (arith, e))
 all_fixed_by g gs n (Some s) is more e = ap (λ h. segment h gs) (step_is g s is) ∙ ap (segment (step_segment s)) (more (omega (arith, e)))
 
 -- a query with as many segments as its fixed part has steps is the query of that location
-all_fixed : (gs : Segments) → length (fixed_part gs) ≡ segment_count gs → gs ≡ steps_query (fixed_part gs)
+all_fixed : (gs : Segments) → length (constant_prefix gs) ≡ segment_count gs → gs ≡ steps_query (constant_prefix gs)
 all_fixed no_segments e = refl
 all_fixed (segment g gs) e = all_fixed_by g gs (segment_count gs) (fixed_step g) refl (all_fixed gs) e
 
 count_of : (q : JpQuery) → segment_count (query_view q) ≡ length q.segments.items
 count_of q = ap segment_count (query_view-segments q) ∙ count_in q.segments.items
 
-steps_there : (q : JpQuery) (ss : List owned.Step) → location_view ss ≡ fixed_part (query_view q) → length ss ≡ length (fixed_part (query_view q))
+steps_there : (q : JpQuery) (ss : List owned.Step) → location_view ss ≡ constant_prefix (query_view q) → length ss ≡ length (constant_prefix (query_view q))
 steps_there q ss is = sym (length-map ss owned_step) ∙ ap length is
 
 -- the steps at the front of a query are its location exactly where it has no further segment
-pub whole_location : (q : JpQuery) (ss : List owned.Step) → location_view ss ≡ fixed_part (query_view q) → length ss ≡ length q.segments.items → IsLocationOf (query_view q) (Some (location_view ss))
+pub whole_location : (q : JpQuery) (ss : List owned.Step) → location_view ss ≡ constant_prefix (query_view q) → length ss ≡ length q.segments.items → IsLocationOf (query_view q) (Some (location_view ss))
 whole_location q ss is full = record {
   found = all_fixed (query_view q) (sym (steps_there q ss is) ∙ full ∙ sym (count_of q)) ∙ ap steps_query (sym is);
-  all = λ m same. ap Some (is ∙ ap fixed_part same ∙ fixed_steps m);
+  all = λ m same. ap Some (is ∙ ap constant_prefix same ∙ prefix_of_steps m);
 }
 
-pub no_location : (q : JpQuery) (ss : List owned.Step) → location_view ss ≡ fixed_part (query_view q) → (length ss ≡ length q.segments.items → ⊥) → IsLocationOf (query_view q) None
+pub no_location : (q : JpQuery) (ss : List owned.Step) → location_view ss ≡ constant_prefix (query_view q) → (length ss ≡ length q.segments.items → ⊥) → IsLocationOf (query_view q) None
 no_location q ss is more = record {
   found = tt;
-  all = λ m same. absurd (more (steps_there q ss is ∙ ap length (ap fixed_part same ∙ fixed_steps m) ∙ sym (count_steps m) ∙ sym (ap segment_count same) ∙ count_of q));
+  all = λ m same. absurd (more (steps_there q ss is ∙ ap length (ap constant_prefix same ∙ prefix_of_steps m) ∙ sym (count_steps m) ∙ sym (ap segment_count same) ∙ count_of q));
 }
 
 -- ---- what a text means

@@ -103,27 +103,27 @@ pairs-found (m ∷ ms) h =
 -- ---- nodes
 
 -- the node is in the document, and its objects have distinct names
-pub record Stands (doc : Tree) (n : Node) : Type 0 where
+pub record IsPositioned (doc : Tree) (n : Node) : Type 0 where
   pub there : at n.location doc ≡ Some n.tree
   pub distinct : IsTrue (has_distinct_names n.tree)
 
-stands-below : (doc : Tree) (l : Location) (t : Tree) (s : Step) (u : Tree) → Stands doc (record { location = l; tree = t }) → child s t ≡ Some u → Stands doc (below l s u)
+stands-below : (doc : Tree) (l : Location) (t : Tree) (s : Step) (u : Tree) → IsPositioned doc (record { location = l; tree = t }) → child s t ≡ Some u → IsPositioned doc (below l s u)
 stands-below doc l t s u h e = record { there = at-below l s doc t h.there ∙ e; distinct = child-distinct s t u e h.distinct }
 
-stands-option : (doc : Tree) (l : Location) (t : Tree) (s : Step) (o : Option Tree) → Stands doc (record { location = l; tree = t }) → child s t ≡ o → AllByRecursion (Stands doc) (map (below l s) (option_to_list o))
+stands-option : (doc : Tree) (l : Location) (t : Tree) (s : Step) (o : Option Tree) → IsPositioned doc (record { location = l; tree = t }) → child s t ≡ o → AllByRecursion (IsPositioned doc) (map (below l s) (option_to_list o))
 stands-option doc l t s None h e = tt
 stands-option doc l t s (Some u) h e = (stands-below doc l t s u h e, tt)
 
-stands-elements : (doc : Tree) (l : Location) (t : Tree) (k : ℕ) (ts : Trees) → Stands doc (record { location = l; tree = t }) → ((i : ℕ) → child (index (k + i)) t ≡ item_at i ts) → AllByRecursion (Stands doc) (element_nodes l k (elements ts))
+stands-elements : (doc : Tree) (l : Location) (t : Tree) (k : ℕ) (ts : Trees) → IsPositioned doc (record { location = l; tree = t }) → ((i : ℕ) → child (index (k + i)) t ≡ item_at i ts) → AllByRecursion (IsPositioned doc) (element_nodes l k (elements ts))
 stands-elements doc l t k no_trees h e = tt
 stands-elements doc l t k (base.tree u ts) h e =
     (stands-below doc l t (index k) u h (ap (λ j. child (index j) t) (omega arith) ∙ e 0), stands-elements doc l t (suc k) ts h (λ i. ap (λ j. child (index j) t) (omega arith) ∙ e (suc i)))
 
-stands-members : (doc : Tree) (l : Location) (t : Tree) (ms : List (List ℕ × Tree)) → Stands doc (record { location = l; tree = t }) → AllByRecursion (λ m. get m.0 t ≡ Some m.1) ms → AllByRecursion (Stands doc) (member_nodes l ms)
+stands-members : (doc : Tree) (l : Location) (t : Tree) (ms : List (List ℕ × Tree)) → IsPositioned doc (record { location = l; tree = t }) → AllByRecursion (λ m. get m.0 t ≡ Some m.1) ms → AllByRecursion (IsPositioned doc) (member_nodes l ms)
 stands-members doc l t [] h e = tt
 stands-members doc l t (m ∷ ms) h e = (stands-below doc l t (name m.0) m.1 h e.0, stands-members doc l t ms h e.1)
 
-stands-children_at : (doc : Tree) (l : Location) (t : Tree) → Stands doc (record { location = l; tree = t }) → AllByRecursion (Stands doc) (children_at l t)
+stands-children_at : (doc : Tree) (l : Location) (t : Tree) → IsPositioned doc (record { location = l; tree = t }) → AllByRecursion (IsPositioned doc) (children_at l t)
 stands-children_at doc l (list ts) h = stands-elements doc l (list ts) 0 ts h (λ i. ap (λ j. item_at j ts) (omega arith))
 stands-children_at doc l (object ms) h = stands-members doc l (object ms) (pairs ms) h (pairs-found (pairs ms) (and_parts (are_distinct (map (λ m. m.0) (pairs ms))) (members_distinct ms) h.distinct).0)
 stands-children_at doc l null h = tt
@@ -135,16 +135,16 @@ each_unit : {A : Type 0} (xs : List A) → AllByRecursion (λ _. Unit {0}) xs
 each_unit [] = tt
 each_unit (x ∷ xs) = (tt, each_unit xs)
 
-pub stands-indexed : (i : ℤ) (doc : Tree) (n : Node) → Stands doc n → AllByRecursion (Stands doc) (indexed i n)
+pub stands-indexed : (i : ℤ) (doc : Tree) (n : Node) → IsPositioned doc n → AllByRecursion (IsPositioned doc) (indexed i n)
 stands-indexed i doc n h =
-    each-flat_map (λ _. Unit {0}) (Stands doc) (λ k. element k n) (λ k _. stands-option doc n.location n.tree (index k) (child (index k) n.tree) h refl) (option_to_list (option_and_then (λ ts. element_of i (length ts)) (as_list n.tree))) (each_unit (option_to_list (option_and_then (λ ts. element_of i (length ts)) (as_list n.tree))))
+    each-flat_map (λ _. Unit {0}) (IsPositioned doc) (λ k. element k n) (λ k _. stands-option doc n.location n.tree (index k) (child (index k) n.tree) h refl) (option_to_list (option_and_then (λ ts. element_of i (length ts)) (as_list n.tree))) (each_unit (option_to_list (option_and_then (λ ts. element_of i (length ts)) (as_list n.tree))))
 
-stands-places : (is : List ℕ) (doc : Tree) (n : Node) → Stands doc n → AllByRecursion (Stands doc) (flat_map (λ k. element k n) is)
-stands-places is doc n h = each-flat_map (λ _. Unit {0}) (Stands doc) (λ k. element k n) (λ k _. stands-option doc n.location n.tree (index k) (child (index k) n.tree) h refl) is (each_unit is)
+stands-places : (is : List ℕ) (doc : Tree) (n : Node) → IsPositioned doc n → AllByRecursion (IsPositioned doc) (flat_map (λ k. element k n) is)
+stands-places is doc n h = each-flat_map (λ _. Unit {0}) (IsPositioned doc) (λ k. element k n) (λ k _. stands-option doc n.location n.tree (index k) (child (index k) n.tree) h refl) is (each_unit is)
 
-stands-sliced : (start end step : Option ℤ) (doc : Tree) (n : Node) → Stands doc n → AllByRecursion (Stands doc) (sliced start end step n)
+stands-sliced : (start end step : Option ℤ) (doc : Tree) (n : Node) → IsPositioned doc n → AllByRecursion (IsPositioned doc) (sliced start end step n)
 stands-sliced start end step doc n h =
-    each-flat_map (λ _. Unit {0}) (Stands doc) (λ ts. flat_map (λ k. element k n) (slice_of start end step (length ts))) (λ ts _. stands-places (slice_of start end step (length ts)) doc n h) (option_to_list (as_list n.tree)) (each_unit (option_to_list (as_list n.tree)))
+    each-flat_map (λ _. Unit {0}) (IsPositioned doc) (λ ts. flat_map (λ k. element k n) (slice_of start end step (length ts))) (λ ts _. stands-places (slice_of start end step (length ts)) doc n h) (option_to_list (as_list n.tree)) (each_unit (option_to_list (as_list n.tree)))
 
 each-kept : {A : Type 0} (P : A → Type 0) (b : Bool) (x : A) (xs : List A) → P x → AllByRecursion P xs → AllByRecursion P (cond b (x ∷ xs) xs)
 each-kept P true x xs h k = (h, k)
@@ -154,16 +154,16 @@ pub each-filter : {A : Type 0} (P : A → Type 0) (f : A → Bool) (xs : List A)
 each-filter P f [] h = tt
 each-filter P f (x ∷ xs) h = each-kept P (f x) x (filter f xs) h.0 (each-filter P f xs h.1)
 
-pub stands-picks : (s : Selector) (d : Document) (n : Node) → Stands d.root n → AllByRecursion (Stands d.root) (picks s d n)
+pub stands-picks : (s : Selector) (d : Document) (n : Node) → IsPositioned d.root n → AllByRecursion (IsPositioned d.root) (picks s d n)
 stands-picks (syntax.Selector.name k) d n h = stands-option d.root n.location n.tree (name k) (child (name k) n.tree) h refl
 stands-picks wildcard d n h = stands-children_at d.root n.location n.tree h
 stands-picks (syntax.Selector.index i) d n h = stands-indexed i d.root n h
 stands-picks (slice start end step) d n h = stands-sliced start end step d.root n h
-stands-picks (syntax.Selector.filter f) d n h = each-filter (Stands d.root) (holds f d) (children n) (stands-children_at d.root n.location n.tree h)
+stands-picks (syntax.Selector.filter f) d n h = each-filter (IsPositioned d.root) (holds f d) (children n) (stands-children_at d.root n.location n.tree h)
 
-stands-all_pick : (ss : Selectors) (d : Document) (n : Node) → Stands d.root n → AllByRecursion (Stands d.root) (all_pick ss d n)
+stands-all_pick : (ss : Selectors) (d : Document) (n : Node) → IsPositioned d.root n → AllByRecursion (IsPositioned d.root) (all_pick ss d n)
 stands-all_pick no_selectors d n h = tt
-stands-all_pick (selector s ss) d n h = each-append (Stands d.root) (picks s d n) (all_pick ss d n) (stands-picks s d n h) (stands-all_pick ss d n h)
+stands-all_pick (selector s ss) d n h = each-append (IsPositioned d.root) (picks s d n) (all_pick ss d n) (stands-picks s d n h) (stands-all_pick ss d n h)
 
 each_both : {A : Type 0} (P Q : A → Type 0) (xs : List A) → AllByRecursion P xs → AllByRecursion Q xs → AllByRecursion (λ x. P x × Q x) xs
 each_both P Q [] h k = tt
@@ -194,25 +194,25 @@ children-smaller l (number k) n h = tt
 children-smaller l (text s) n h = tt
 
 -- each node below one that is in the document is in it too, by induction on the size
-pub stands-subtree : (doc : Tree) (n : ℕ) (l : Location) (t : Tree) → size t ≤ n → Stands doc (record { location = l; tree = t }) → AllByRecursion (Stands doc) (subtree_at l t)
+pub stands-subtree : (doc : Tree) (n : ℕ) (l : Location) (t : Tree) → size t ≤ n → IsPositioned doc (record { location = l; tree = t }) → AllByRecursion (IsPositioned doc) (subtree_at l t)
 stands-subtree doc zero l t bound h = absurd (omega (arith, bound, size_above t))
 stands-subtree doc (suc n) l t bound h =
-    let here : AllByRecursion (Stands doc) (record { location = l; tree = t } ∷ flat_map subtree (children_at l t)) = (h, each-flat_map (λ m. Stands doc m × (size m.tree ≤ n)) (Stands doc) subtree (λ m k. stands-subtree doc n m.location m.tree k.1 k.0) (children_at l t) (each_both (Stands doc) (λ m. size m.tree ≤ n) (children_at l t) (stands-children_at doc l t h) (children-smaller l t n bound))) in
-    let P : List Node → Type 0 = AllByRecursion (Stands doc) in
+    let here : AllByRecursion (IsPositioned doc) (record { location = l; tree = t } ∷ flat_map subtree (children_at l t)) = (h, each-flat_map (λ m. IsPositioned doc m × (size m.tree ≤ n)) (IsPositioned doc) subtree (λ m k. stands-subtree doc n m.location m.tree k.1 k.0) (children_at l t) (each_both (IsPositioned doc) (λ m. size m.tree ≤ n) (children_at l t) (stands-children_at doc l t h) (children-smaller l t n bound))) in
+    let P : List Node → Type 0 = AllByRecursion (IsPositioned doc) in
     subst P (sym (subtree-children l t)) here
 
-stands-replaced : (g : Segment) (d : Document) (n : Node) → Stands d.root n → AllByRecursion (Stands d.root) (replaced g d n)
+stands-replaced : (g : Segment) (d : Document) (n : Node) → IsPositioned d.root n → AllByRecursion (IsPositioned d.root) (replaced g d n)
 stands-replaced (one s) d n h = stands-picks s d n h
 stands-replaced (several ss) d n h = stands-all_pick ss d n h
-stands-replaced (descendant g) d n h = each-flat_map (Stands d.root) (Stands d.root) (replaced g d) (λ m k. stands-replaced g d m k) (subtree n) (stands-subtree d.root (size n.tree) n.location n.tree (omega arith) h)
+stands-replaced (descendant g) d n h = each-flat_map (IsPositioned d.root) (IsPositioned d.root) (replaced g d) (λ m k. stands-replaced g d m k) (subtree n) (stands-subtree d.root (size n.tree) n.location n.tree (omega arith) h)
 
-stands-all_applied : (gs : Segments) (d : Document) (ns : List Node) → AllByRecursion (Stands d.root) ns → AllByRecursion (Stands d.root) (all_applied gs d ns)
+stands-all_applied : (gs : Segments) (d : Document) (ns : List Node) → AllByRecursion (IsPositioned d.root) ns → AllByRecursion (IsPositioned d.root) (all_applied gs d ns)
 stands-all_applied no_segments d ns h = h
-stands-all_applied (segment g gs) d ns h = stands-all_applied gs d (flat_map (replaced g d) ns) (each-flat_map (Stands d.root) (Stands d.root) (replaced g d) (λ n k. stands-replaced g d n k) ns h)
+stands-all_applied (segment g gs) d ns h = stands-all_applied gs d (flat_map (replaced g d) ns) (each-flat_map (IsPositioned d.root) (IsPositioned d.root) (replaced g d) (λ n k. stands-replaced g d n k) ns h)
 
 -- the value at each node's location is the node's tree
 pub nodes_at : (q : Query) (d : Document) → IsTrue (has_distinct_names d.root) → AllByRecursion (λ n. at n.location d.root ≡ Some n.tree) (nodelist q d)
-nodes_at q d h = each_weaker (Stands d.root) (λ n. at n.location d.root ≡ Some n.tree) (λ n k. k.there) (nodelist q d) (stands-all_applied q d (root_node d.root ∷ []) (record { there = refl; distinct = h }, tt))
+nodes_at q d h = each_weaker (IsPositioned d.root) (λ n. at n.location d.root ≡ Some n.tree) (λ n k. k.there) (nodelist q d) (stands-all_applied q d (root_node d.root ∷ []) (record { there = refl; distinct = h }, tt))
 
 -- ---- where the steps of a walk lead
 

@@ -1,6 +1,6 @@
 use Rattle.std.proofs.Common.{◌≡◌, ◌<◌, ◌+◌, length, drop, true≢false, ◌∷◌, BTreeMap, String, Global, string_cmp, nat_cmp, refl, sym, ap, ◌∙◌, arith}
 use Rattle.std.proofs.lemmas.List.{drop_all}
-use Rattle.jsonpath_base.specs.Prelude.{index, items_overwritten, items_view, level_in_order, lookup, marked, marked_below, marks_total, members_overwritten, members_view, name, out-Marks, outermost_total, set_value, to_member, Value, view}
+use Rattle.jsonpath_base.specs.Prelude.{index, items_overwritten, items_view, level_in_order, lookup, marked, marked_below, marks_total, members_overwritten, members_view, name, out-LocationTrie, outermost_total, set_value, to_member, Value, view}
 use Rattle.serde_json.proofs.Views.{view-Array, view-Object}
 use Rattle.jsonpath_base.proofs.Filling.{put_here, gone_into, array_filled, object_filled, scalar_filled, element_filled, beyond_filled, items_end, absent_filled, member_filled, members_end, outermost_here, outermost_inside}
 use Rattle.jsonpath_base.proofs.InOrder.{level_sorted, turn}
@@ -21,19 +21,19 @@ fill-returns-then-marks-clause-fewer t c = omega (arith, outermost_here c.args.m
 pub fill-fill_items-requires : goal.fill-fill_items-requires
 fill-fill_items-requires t c =
     let m = c.args.marks.now in let same = c.deref.ensures.value in
-    let needed : outermost_total c.deref.result.now ≡ outermost_total (out-Marks m).indexes.items = ap outermost_total same in
+    let needed : outermost_total c.deref.result.now ≡ outermost_total (out-LocationTrie m).indexes.items = ap outermost_total same in
     (omega (arith, count_out m, ap marks_total same), (ap (level_in_order nat_cmp) same ∙ indexes_in_order m c.requires.ordered, omega (arith, outermost_inside m c.if-marks.false, c.requires.enough, needed)))
 
 pub fill-fill_members-requires : goal.fill-fill_members-requires
 fill-fill_members-requires t c =
     let m = c.args.marks.now in let d = c.deref-in-Some-as_object_mut in
-    let needed : outermost_total d.result.now ≡ outermost_total (out-Marks m).names.items = ap outermost_total d.ensures.value in
+    let needed : outermost_total d.result.now ≡ outermost_total (out-LocationTrie m).names.items = ap outermost_total d.ensures.value in
     (omega (arith, count_out m, ap marks_total d.ensures.value), (ap (level_in_order string_cmp) d.ensures.value ∙ names_in_order m c.requires.ordered, omega (arith, outermost_inside m c.if-marks.false, c.requires.enough, needed)))
 
 pub fill-returns-in-Some-clause-filled : goal.fill-returns-in-Some-clause-filled
 fill-returns-in-Some-clause-filled t c = λ u all.
     let m = c.args.marks.now in let d = view c.args.value.now in
-    let keys = are_keys index nat_cmp index_test _ (level_sorted nat_cmp (out-Marks m).indexes.items (indexes_in_order m c.requires.ordered)) in
+    let keys = are_keys index nat_cmp index_test _ (level_sorted nat_cmp (out-LocationTrie m).indexes.items (indexes_in_order m c.requires.ordered)) in
     view-Array c.fill_items.new.items
     ∙ array_filled (marked_below index c.deref.result.now) (marked m) u d _ _ (λ i l. ap (λ es. marked_below index es (index i ∷ l)) c.deref.ensures.value ∙ sym (marked_element m keys i l)) c.in-Some.ensures.value (c.fill_items.ensures.filled u all)
     ∙ gone_into m u d c.if-marks.false
@@ -44,7 +44,7 @@ fill-returns-in-Some-clause-fewer t c = omega (arith, outermost_inside c.args.ma
 pub fill-returns-in-Some-as_object_mut-clause-filled : goal.fill-returns-in-Some-as_object_mut-clause-filled
 fill-returns-in-Some-as_object_mut-clause-filled t c = λ u all.
     let m = c.args.marks.now in let d = view c.args.value.now in let lent = c.deref-in-Some-as_object_mut in
-    let keys = are_keys to_member string_cmp name_test _ (level_sorted string_cmp (out-Marks m).names.items (names_in_order m c.requires.ordered)) in
+    let keys = are_keys to_member string_cmp name_test _ (level_sorted string_cmp (out-LocationTrie m).names.items (names_in_order m c.requires.ordered)) in
     view-Object c.fill_members.new.members
     ∙ object_filled (marked_below to_member lent.result.now) (marked m) u d _ _ (λ k l. ap (λ es. marked_below to_member es (name k ∷ l)) lent.ensures.value ∙ sym (marked_member m keys k l)) c.in-Some-as_object_mut.ensures.value (c.fill_members.ensures.filled u all)
     ∙ gone_into m u d c.if-marks.false

@@ -1,6 +1,6 @@
 use Rattle.std.proofs.Common.{◌≡◌, if◌then◌else◌, ◌+◌, ◌<◌, length, string_cmp, nat_cmp, sym, ap, ◌∙◌, subst, arith}
 use Rattle.std.proofs.lemmas.Result.{IfOk-weaker}
-use Rattle.jsonpath_base.specs.Prelude.{distinct_count, in_order, index, IsSameSet, listed, marked, marked_in, marks_total, out-Marks, to_member}
+use Rattle.jsonpath_base.specs.Prelude.{distinct_count, in_order, index, IsSameSet, listed, marked, marked_in, marks_total, out-LocationTrie, to_member}
 use Rattle.jsonpath_base.proofs.Marking.{count_out, name_test, index_test, rolled}
 use Rattle.jsonpath_base.proofs.InOrder.{out_here, out_names, out_indexes, rolled_as, same_rolled, order_rolled, count_of_rolled, ok_given, sofar_at, sofar_next, sofar_ordered, sofar_counted, same_then}
 use Rattle.jsonpath_base.proofs.ordering.+order.Goals as goal
@@ -10,27 +10,27 @@ put_in_order-order_members-requires t c = (omega (arith, count_out c.args.marks.
 
 pub put_in_order-order_elements-requires : goal.put_in_order-order_elements-requires
 put_in_order-order_elements-requires t c =
-    let m = out-Marks c.args.marks.now in
-    (omega (arith, count_out c.args.marks.now, ap (λ v. marks_total v.items) (out_indexes m.here c.order_members.new.below m.indexes)), tt)
+    let m = out-LocationTrie c.args.marks.now in
+    (omega (arith, count_out c.args.marks.now, ap (λ v. marks_total v.items) (out_indexes m.is_marked c.order_members.new.below m.indexes)), tt)
 
 pub put_in_order-returns-clause-same : goal.put_in_order-returns-clause-same
 put_in_order-returns-clause-same t c =
-    let m = c.args.marks.now in let o = out-Marks m in let ns = c.order_members.new.below in let is = c.order_elements.new.below in
-    let last = subst (λ v. IsSameSet (marked_in index v.items) (marked_in index is.items)) (out_indexes o.here ns o.indexes) c.in_ok-indexes.ensures.same in
-    ok_given c.sum-2.result (subst (λ x. IsSameSet (marked m) (marked x)) (sym (rolled_as _ _ _ _ is (out_here o.here ns o.indexes) (out_names o.here ns o.indexes))) (same_rolled m ns is c.in_ok-names.ensures.same last))
+    let m = c.args.marks.now in let o = out-LocationTrie m in let ns = c.order_members.new.below in let is = c.order_elements.new.below in
+    let last = subst (λ v. IsSameSet (marked_in index v.items) (marked_in index is.items)) (out_indexes o.is_marked ns o.indexes) c.in_ok-indexes.ensures.same in
+    ok_given c.sum-2.result (subst (λ x. IsSameSet (marked m) (marked x)) (sym (rolled_as _ _ _ _ is (out_here o.is_marked ns o.indexes) (out_names o.is_marked ns o.indexes))) (same_rolled m ns is c.in_ok-names.ensures.same last))
 
 pub put_in_order-returns-clause-ordered : goal.put_in_order-returns-clause-ordered
 put_in_order-returns-clause-ordered t c =
-    let o = out-Marks c.args.marks.now in let ns = c.order_members.new.below in let is = c.order_elements.new.below in
-    ok_given c.sum-2.result (ap in_order (rolled_as _ _ _ _ is (out_here o.here ns o.indexes) (out_names o.here ns o.indexes)) ∙ order_rolled o.here ns is c.in_ok-names.ensures.ordered c.in_ok-indexes.ensures.ordered)
+    let o = out-LocationTrie c.args.marks.now in let ns = c.order_members.new.below in let is = c.order_elements.new.below in
+    ok_given c.sum-2.result (ap in_order (rolled_as _ _ _ _ is (out_here o.is_marked ns o.indexes) (out_names o.is_marked ns o.indexes)) ∙ order_rolled o.is_marked ns is c.in_ok-names.ensures.ordered c.in_ok-indexes.ensures.ordered)
 
 pub put_in_order-returns-clause-count : goal.put_in_order-returns-clause-count
 put_in_order-returns-clause-count t c =
-    let o = out-Marks c.args.marks.now in let ns = c.order_members.new.below in let is = c.order_elements.new.below in
-    let held = c.ones.ensures ∙ ap (λ b. if b then 1 else 0) (out_here (out-Marks (rolled o.here ns o.indexes)).here (out-Marks (rolled o.here ns o.indexes)).names is ∙ out_here o.here ns o.indexes) in
-    let marks = rolled_as _ _ _ _ is (out_here o.here ns o.indexes) (out_names o.here ns o.indexes) in
+    let o = out-LocationTrie c.args.marks.now in let ns = c.order_members.new.below in let is = c.order_elements.new.below in
+    let held = c.ones.ensures ∙ ap (λ b. if b then 1 else 0) (out_here (out-LocationTrie (rolled o.is_marked ns o.indexes)).is_marked (out-LocationTrie (rolled o.is_marked ns o.indexes)).names is ∙ out_here o.is_marked ns o.indexes) in
+    let marks = rolled_as _ _ _ _ is (out_here o.is_marked ns o.indexes) (out_names o.is_marked ns o.indexes) in
     IfOk-weaker c.sum-2.result (λ n. n ≡ c.ones.result + c.in_ok-sum.field-0) _
-    (λ n e. count_of_rolled o.here ns is n c.ones.result c.in_ok-names.names c.in_ok-indexes.indexes (e ∙ ap (λ k. c.ones.result + k) c.in_ok-sum.ensures) held c.in_ok-names.ensures.count c.in_ok-indexes.ensures.count ∙ ap (λ m. distinct_count (listed m)) (sym marks)) c.sum-2.ensures
+    (λ n e. count_of_rolled o.is_marked ns is n c.ones.result c.in_ok-names.names c.in_ok-indexes.indexes (e ∙ ap (λ k. c.ones.result + k) c.in_ok-sum.ensures) held c.in_ok-names.ensures.count c.in_ok-indexes.ensures.count ∙ ap (λ m. distinct_count (listed m)) (sym marks)) c.sum-2.ensures
 
 pub order_members-put_in_order-requires : goal.order_members-put_in_order-requires
 order_members-put_in_order-requires t c =

@@ -1,6 +1,6 @@
 use Rattle.std.proofs.Common.{◌<◌, ◌+◌, length, drop, true≢false, ◌∷◌, BTreeMap, String, Global, string_bytes, string_cmp, nat_cmp, refl, sym, ap, ◌∙◌, arith}
 use Rattle.std.proofs.lemmas.List.{drop_all}
-use Rattle.jsonpath_base.specs.Prelude.{index, items_view, level_in_order, lookup, marked, marked_below, marks_total, members_thinned, members_view, name, out-Marks, remove_entry, set_value, thinned_below, to_member, Value, view}
+use Rattle.jsonpath_base.specs.Prelude.{index, items_view, level_in_order, lookup, marked, marked_below, marks_total, members_thinned, members_view, name, out-LocationTrie, remove_entry, set_value, thinned_below, to_member, Value, view}
 use Rattle.serde_json.proofs.Views.{view-Array, view-Object}
 use Rattle.jsonpath_base.proofs.Marking.{count_out, marked_here, marked_member, marked_element, name_test, index_test, are_keys}
 use Rattle.jsonpath_base.proofs.InOrder.{level_sorted, turn}
@@ -20,14 +20,14 @@ thin-thin_members-requires t c =
 pub thin-returns-in-Some : goal.thin-returns-in-Some
 thin-returns-in-Some t c =
     let m = c.args.marks.now in
-    let keys = are_keys index nat_cmp index_test _ (level_sorted nat_cmp (out-Marks m).indexes.items (indexes_in_order m c.requires)) in
+    let keys = are_keys index nat_cmp index_test _ (level_sorted nat_cmp (out-LocationTrie m).indexes.items (indexes_in_order m c.requires)) in
     view-Array c.thin_items.new.items
     ∙ array_thinned (marked_below index c.deref.result.now) (marked m) (view c.args.value.now) _ _ (λ i l. ap (λ es. marked_below index es (index i ∷ l)) c.deref.ensures.value ∙ sym (marked_element m keys i l)) c.in-Some.ensures.value c.thin_items.ensures
 
 pub thin-returns-in-Some-as_object_mut : goal.thin-returns-in-Some-as_object_mut
 thin-returns-in-Some-as_object_mut t c =
     let m = c.args.marks.now in let d = c.deref-in-Some-as_object_mut in
-    let keys = are_keys to_member string_cmp name_test _ (level_sorted string_cmp (out-Marks m).names.items (names_in_order m c.requires)) in
+    let keys = are_keys to_member string_cmp name_test _ (level_sorted string_cmp (out-LocationTrie m).names.items (names_in_order m c.requires)) in
     view-Object c.thin_members.new.members
     ∙ object_thinned (marked_below to_member d.result.now) (marked m) (view c.args.value.now) _ _ (λ k l. ap (λ es. marked_below to_member es (name k ∷ l)) d.ensures.value ∙ sym (marked_member m keys k l)) c.in-Some-as_object_mut.ensures.value c.thin_members.ensures
 

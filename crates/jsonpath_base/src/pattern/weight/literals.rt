@@ -1,6 +1,6 @@
 //! The literals that `regex` copies before it builds a pattern: those that a choice is written out as, and those of runs. It looks
 //! for runs from so many parts on, each as far as it has no more literals than this.
-use crate::pattern::weight::part::Part;
+use crate::pattern::weight::piece::Piece;
 
 const MOST_RUNS: usize = 256;
 
@@ -30,8 +30,8 @@ impl Literals {
     }
 
     /// How many there are, for a pattern that is this part.
-    pub fn copied(self, whole: Part) -> usize {
-        if whole.is_choice() {
+    pub fn copied(self, entire: Piece) -> usize {
+        if entire.is_choice() {
             self.found.saturating_add(self.written)
         } else {
             self.found
@@ -39,7 +39,7 @@ impl Literals {
     }
 
     /// Counts those for an atom behind the rest of its branch: half of the runs go on to it.
-    pub fn count(&mut self, before: Part, atom: Part) {
+    pub fn count(&mut self, before: Piece, atom: Piece) {
         let both = before.then(atom);
         if both.most > 1 {
             self.written = self.written.saturating_add(both.most);

@@ -1,7 +1,7 @@
 //! Reads a pattern, character by character, for what it takes of `regex`.
 
 use crate::pattern::weight::literals::Literals;
-use crate::pattern::weight::part::{EMPTY, FEW, MOST_ROUNDS, NOTHING, Part};
+use crate::pattern::weight::piece::{EMPTY, FEW, MOST_ROUNDS, NOTHING, Piece};
 use std::alloc::{AllocError, Global};
 
 /// The length of a class of all characters but a few, and of an escape by number.
@@ -61,13 +61,13 @@ pub struct Scale {
     /// How many brackets of classes are open.
     brackets: usize,
     /// Of each open group or class what stands before it in the one around it: the branches that have ended, and the last one.
-    outer: Vec<(Part, Part)>,
+    outer: Vec<(Piece, Piece)>,
     /// The branches of the innermost one that have ended; of a class its members.
-    ended: Part,
+    ended: Piece,
     /// Its last branch before the last atom.
-    before: Part,
+    before: Piece,
     /// The last atom, which a repetition multiplies.
-    atom: Part,
+    atom: Piece,
     /// The last character of a class; whether it is turned round, and whether it may have few members, or none, for all that is
     /// known.
     last: usize,
@@ -113,17 +113,17 @@ impl Scale {
 
     /// About how many characters it has where its counted repetitions are written out.
     pub fn length(&self) -> usize {
-        self.whole().length
+        self.entire().length
     }
 
     /// What reading it costs beside: its groups, its classes, and the literals that it is a choice among.
     pub fn beside(&self) -> usize {
-        let copied = self.literals.copied(self.whole());
+        let copied = self.literals.copied(self.entire());
         self.more.saturating_add(copied)
     }
 
     /// All of the innermost group or class that was read.
-    fn whole(&self) -> Part {
+    fn entire(&self) -> Piece {
         self.ended.or(self.before.then(self.atom))
     }
 
@@ -165,9 +165,9 @@ impl Scale {
             '|' => self.end_branch(),
             '{' => self.place = Place::Count { most: 0, number: 0 },
             '*' | '+' => self.put_other(self.atom.unbounded(1)),
-            '?' => self.repeat(self.atom.or(Part::maybe(1))),
-            '.' => self.add(Part::other(ALL_BUT_FEW)),
-            '^' | '$' => self.add(Part::other(1)),
+            '?' => self.repeat(self.atom.or(Piece::maybe(1))),
+            '.' => self.add(Piece::other(ALL_BUT_FEW)),
+            '^' | '$' => self.add(Piece::other(1)),
             _ => self.put_text(c, is_joined),
         }
         Ok(())
@@ -176,7 +176,7 @@ impl Scale {
     /// Reads a character that stands for itself. One behind another is joined to it.
     fn put_text(&mut self, c: char, is_joined: bool) {
         if is_joined {
-            self.put_atom(Part::one(c.len_utf8(), 1));
+            self.put_atom(Piece::one(c.len_utf8(), 1));
         } else {
             self.add_character(c);
         }
@@ -194,15 +194,15 @@ impl Scale {
         self.last = usize::MAX;
         self.is_unknown |= self.is_turned;
         self.add(match c {
-            'p' | 'P' => Part::some(self.property, 1),
-            'd' | 's' if self.has_bytes => Part::some(self.property / 10 + 1, 1),
-            'w' | 'W' => Part::other(self.property),
-            'd' | 'D' | 's' | 'S' => Part::other(self.property / 10 + 1),
-            'x' | 'u' | 'U' => Part::some(ALL_BUT_FEW, 1),
-            'b' | 'B' | '<' | '>' => Part::other(WORD_END),
-            'A' | 'z' => Part::other(1),
-            _ if self.brackets > 0 => Part::some(1, 1),
-            _ => Part::one(1, 1),
+            'p' | 'P' => Piece::some(self.property, 1),
+            'd' | 's' if self.has_bytes => Piece::some(self.property / 10 + 1, 1),
+            'w' | 'W' => Piece::other(self.property),
+            'd' | 'D' | 's' | 'S' => Piece::other(self.property / 10 + 1),
+            'x' | 'u' | 'U' => Piece::some(ALL_BUT_FEW, 1),
+            'b' | 'B' | '<' | '>' => Piece::other(WORD_END),
+            'A' | 'z' => Piece::other(1),
+            _ if self.brackets > 0 => Piece::some(1, 1),
+            _ => Piece::one(1, 1),
         });
     }
 
@@ -235,7 +235,7 @@ impl Scale {
     }
 
     /// The last atom becomes this part, at which a run may end.
-    fn put_other(&mut self, part: Part) {
+    fn put_other(&mut self, part: Piece) {
         self.atom = part;
         if !part.is_choice() {
             self.literals.end();
@@ -262,7 +262,7 @@ impl Scale {
     /// Reads a character of a class.
     fn put_member(&mut self, c: char) {
         if c == '-' && self.ended.most > 0 {
-            self.ended = self.ended.or(Part::maybe(1));
+            self.ended = self.ended.or(Piece::maybe(1));
             self.place = Place::Range;
             return;
         }
@@ -282,7 +282,7 @@ impl Scale {
             self.more = self.more.saturating_add(CASES);
         }
         let members = (c as usize).saturating_sub(self.last);
-        self.add(Part::one(c.len_utf8(), members));
+        self.add(Piece::one(c.len_utf8(), members));
     }
 
     /// Reads what puts two classes together.
@@ -298,11 +298,11 @@ impl Scale {
             literals = 2;
             self.more = self.more.saturating_add(1);
         }
-        self.add(Part::one(c.len_utf8(), literals));
+        self.add(Piece::one(c.len_utf8(), literals));
     }
 
     /// Adds a member of a class, or else an atom.
-    fn add(&mut self, part: Part) {
+    fn add(&mut self, part: Piece) {
         if self.brackets > 0 {
             self.ended = self.ended.or(part);
             return;
@@ -312,13 +312,13 @@ impl Scale {
         self.literals.count(self.before, self.atom);
     }
 
-    fn put_atom(&mut self, part: Part) {
+    fn put_atom(&mut self, part: Piece) {
         self.before = self.before.then(self.atom);
         self.atom = part;
     }
 
     /// The last atom becomes this part, which repeats it or is a group.
-    fn repeat(&mut self, part: Part) {
+    fn repeat(&mut self, part: Piece) {
         self.atom = part;
         self.literals.count(self.before, self.atom);
         self.literals.begin();
@@ -341,11 +341,11 @@ impl Scale {
 
     fn turn_class(&mut self) {
         self.is_turned = true;
-        self.add(Part::some(ALL_BUT_FEW, 0));
+        self.add(Piece::some(ALL_BUT_FEW, 0));
         self.place = Place::Turned;
     }
 
-    fn open(&mut self, before: Part, place: Place) -> Result<(), AllocError> {
+    fn open(&mut self, before: Piece, place: Place) -> Result<(), AllocError> {
         self.outer.push((self.ended, self.before.then(self.atom)))?;
         self.ended = NOTHING;
         self.before = before;
@@ -355,20 +355,20 @@ impl Scale {
     }
 
     fn end_branch(&mut self) {
-        self.ended = self.whole();
+        self.ended = self.entire();
         self.ended.length = self.ended.length.saturating_add(1);
         self.before = EMPTY;
         self.atom = EMPTY;
     }
 
     /// What was opened last, which ends here.
-    fn close(&mut self) -> Part {
-        let whole = self.whole();
+    fn close(&mut self) -> Piece {
+        let entire = self.entire();
         let (ended, before) = self.outer.pop().unwrap_or((NOTHING, EMPTY));
         self.ended = ended;
         self.before = before;
         self.atom = EMPTY;
-        whole
+        entire
     }
 
     fn close_group(&mut self) {
@@ -383,11 +383,11 @@ impl Scale {
         self.add(if self.brackets > 0 {
             members
         } else if self.is_unknown || (self.is_turned && members.most > ALMOST_ALL) {
-            Part::some(length, 0)
+            Piece::some(length, 0)
         } else if self.is_turned || members.least > FEW {
-            Part::other(length)
+            Piece::other(length)
         } else if self.has_cases {
-            Part::some(length, members.least)
+            Piece::some(length, members.least)
         } else {
             members
         });

@@ -4,7 +4,7 @@ use Rattle.std.specs.Option.{is_none}
 use Rattle.std.specs.Borrow.{Bor}
 use Rattle.jsonpath_parser.specs.Prelude.{absolute, Argument, Call, Filter, is_singular, is_typed, is_typed_call, is_typed_filter, is_typed_segment, is_typed_selector, is_typed_side, relative, Segment, segments_of, Selector, SingularQuerySegment, step_view, Test, test_argument}
 use Rattle.jsonpath_parser.specs.tree.Syntax as tree
-use Rattle.jsonpath_parser.specs.tree.Typing.{Asked, is_truth_test, is_typed_test, is_value_argument, over_argument, over_arguments, over_call, over_filter, over_filters, over_segment, over_segments, over_selector, over_selectors, over_side, over_test, takes, typing}
+use Rattle.jsonpath_parser.specs.tree.Typing.{TreeFold, is_truth_test, is_typed_test, is_value_argument, over_argument, over_arguments, over_call, over_filter, over_filters, over_segment, over_segments, over_selector, over_selectors, over_side, over_test, takes, typing}
 use Rattle.jsonpath_parser.specs.tree.Reach.{first_other, is_local, is_one_of, locality, or_else, other_names}
 use Rattle.jsonpath_parser.specs.inner.Faults.{faults, root_fault, side_fault, test_fault, unless}
 use Rattle.jsonpath_parser.specs.declared.tree.asking.Question.{Question}
@@ -13,7 +13,7 @@ use Rattle.jsonpath_parser.specs.declared.tree.model.SingularQuerySegment.TheVar
 use Rattle.jsonpath_parser.proofs.laws.tree.Steps.{steps_singular}
 
 -- what is seen of the answers to one question are those to another
-record IsSeen {A B : Type 0} (see : A → B) (a : Asked A) (b : Asked B) : Type 0 where
+record IsSeen {A B : Type 0} (see : A → B) (a : TreeFold A) (b : TreeFold B) : Type 0 where
   none : see a.none ≡ b.none
   both : (x y : A) → see (a.both x y) ≡ b.both (see x) (see y)
   of_test : (t : Test) → see (a.of_test t) ≡ b.of_test t
@@ -21,7 +21,7 @@ record IsSeen {A B : Type 0} (see : A → B) (a : Asked A) (b : Asked B) : Type 
   of_root : see a.of_root ≡ b.of_root
   of_call : (c : Call) → see (a.of_call c) ≡ b.of_call c
 
-module _ {A B : Type 0} (see : A → B) (a : Asked A) (b : Asked B) (seen : IsSeen see a b) where
+module _ {A B : Type 0} (see : A → B) (a : TreeFold A) (b : TreeFold B) (seen : IsSeen see a b) where
   joined : (x y : A) (v w : B) → see x ≡ v → see y ≡ w → see (a.both x y) ≡ b.both v w
   joined x y v w e f = seen.both x y ∙ ap (λ p. b.both p (see y)) e ∙ ap (b.both v) f
 

@@ -4,8 +4,8 @@ use Rattle.std.specs.Borrow.{Bor}
 use Rattle.std.specs.List.{prefix_len}
 use Rattle.std.specs.Str.Parse.{digits_value}
 use Rattle.std.specs.Char.{is_ascii_digit}
-use Rattle.jsonpath_parser.specs.declared.words.stop.Stop.{Stop}
-use Rattle.jsonpath_parser.specs.declared.words.stop.Stop.TheVariants.{Memory}
+use Rattle.jsonpath_parser.specs.declared.words.parse_error.ParseError.{ParseError}
+use Rattle.jsonpath_parser.specs.declared.words.parse_error.ParseError.TheVariants.{Memory}
 use Rattle.jsonpath_parser.specs.words.Lexical.{is_blank, is_name_first, is_name_byte}
 
 abbrev pub Read : Type 0 → Type 0
@@ -16,11 +16,11 @@ abbrev pub ◌>>=◌ : {A B : Type 0} → Option A → (A → Option B) → Opti
 o >>= f = option_and_then f o
 
 -- the result is what reading gives, seen through f, unless memory ran out
-abbrev pub Gives : {A B : Type 0} → (A → B) → Result A Stop → Option B → Type 0
+abbrev pub Gives : {A B : Type 0} → (A → B) → Result A ParseError → Option B → Type 0
 Gives f r expected = MatchResult r (λ a. expected ≡ Some (f a)) (λ e. (e ≡ Memory → ⊥) → expected ≡ None)
 
 -- the same of a value and the text after it
-abbrev pub Reads : {A B : Type 0} → (A → B) → Result (A × Bor (List ℕ)) Stop → Read B → Type 0
+abbrev pub Reads : {A B : Type 0} → (A → B) → Result (A × Bor (List ℕ)) ParseError → Read B → Type 0
 Reads f r expected = Gives (λ p. (f p.0, p.1.now)) r expected
 
 -- the longest front whose bytes pass, and the rest

@@ -18,7 +18,7 @@ fn is_step(segment: &Segment) -> bool
     )
 }
 
-fn are_steps(segments: &[Segment]) -> bool
+fn all_steps(segments: &[Segment]) -> bool
     ensures { result ≡ list_all (λ g. typing.is_step (segment_view g)) segments.now }
 {
     segments.iter().all(|segment| is_step(segment))
@@ -26,10 +26,10 @@ fn are_steps(segments: &[Segment]) -> bool
 
 /// Whether each segment is one name or one index (2.3.5.1).
 #[tactic(auto, using(crate::proofs::laws::tree::Calls::is_singular_all))]
-pub(crate) fn is_singular(segments: &[Segment]) -> bool
+pub fn are_steps(segments: &[Segment]) -> bool
     ensures { result ≡ typing.is_singular (segments_of (map segment_view segments.now)) }
 {
-    are_steps(segments)
+    all_steps(segments)
 }
 
 impl Test {
@@ -47,8 +47,8 @@ impl Test {
         ensures { result ≡ typing.is_value_test (test_view self.now) }
     {
         match self {
-            Test::RelQuery(segments) => is_singular(segments),
-            Test::AbsQuery(query) => is_singular(&query.segments),
+            Test::RelQuery(segments) => are_steps(segments),
+            Test::AbsQuery(query) => are_steps(&query.segments),
             Test::Function(call) => call.is_comparable(),
         }
     }

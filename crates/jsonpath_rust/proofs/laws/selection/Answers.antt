@@ -3,11 +3,11 @@ use Rattle.std.proofs.Common.{◌≡◌, ◌↔◌, ◌≤◌, ℕ, min, nat_lt,
 use Rattle.std.proofs.lemmas.Bool.{false≢true}
 use Rattle.std.proofs.lemmas.List.{length-map}
 use Rattle.jsonpath_base.specs.Prelude.Documents.{AllByRecursion, AllZip, at, Document, greatest_count, has_distinct_names, IsNodeAt, IsPathAt, IsValueAt, Node, nodelist, normal, Query, selected, Tree}
-use Rattle.jsonpath_rust.specs.Prelude.Selection.{count_in, counted, give, IsFirstNode, IsOnly, IsOnlyOf, node_count, path_and_tree, sole_node}
+use Rattle.jsonpath_rust.specs.Prelude.Selection.{count_in, counted, feed, IsFirstNode, IsOnly, IsOnlyOf, node_count, path_and_tree, sole_node}
 use Rattle.jsonpath_base.proofs.lemmas.documents.{nodes_at}
 use Rattle.jsonpath_parser.proofs.NormalLemmas.{only_path}
-use Rattle.jsonpath_rust.specs.declared.selection.only.Only.{Only}
-use Rattle.jsonpath_rust.specs.declared.selection.only.Only.TheVariants.{Nothing, One, Several}
+use Rattle.jsonpath_rust.specs.declared.selection.sink.Only.{Only}
+use Rattle.jsonpath_rust.specs.declared.selection.sink.Only.TheVariants.{Nothing, One, Several}
 use Rattle.jsonpath_rust.proofs.laws.selection.Sinks.{counted_all}
 
 nodes_zipped : (doc : Document) (ns : List Node) → AllByRecursion (λ n. at n.location doc.root ≡ Some n.tree) ns → AllZip (IsNodeAt doc) (map (λ n. n.location) ns) (map path_and_tree ns)
@@ -60,7 +60,7 @@ first_answered tree q doc (One m) ns distinct e k = (first_there q doc _ (nodeli
 first_answered tree q doc Several ns distinct e k = none_more (map path_and_tree (nodelist q doc)) (subst (λ ms. 2 ≤ length ms) e k)
 
 -- whether there is a node
-pub no_node : (k : ℕ) (b : Bool) (ns : List Node) → k ≡ count_in (give (counted 1 1) ns) → b ≡ nat_lt 0 k → IsFalse b ↔ (map (λ n. n.location) ns ≡ [])
+pub no_node : (k : ℕ) (b : Bool) (ns : List Node) → k ≡ count_in (feed (counted 1 1) ns) → b ≡ nat_lt 0 k → IsFalse b ↔ (map (λ n. n.location) ns ≡ [])
 no_node k b [] e f = (λ h. refl, λ h. f ∙ ap (nat_lt 0) e)
 no_node k b (n ∷ ns) e f =
     let one : min (length (n ∷ ns)) 1 ≡ 1 = omega arith in
@@ -85,5 +85,5 @@ only_answered tree q doc o ns distinct e k = only_there tree q doc o (nodelist q
 
 -- ---- how many nodes there are
 
-pub count_answered : (q : Query) (doc : Document) (k : ℕ) → k ≡ count_in (give (counted greatest_count greatest_count) (nodelist q doc)) → k ≡ node_count q doc
+pub count_answered : (q : Query) (doc : Document) (k : ℕ) → k ≡ count_in (feed (counted greatest_count greatest_count) (nodelist q doc)) → k ≡ node_count q doc
 count_answered q doc k e = e ∙ counted_all greatest_count (nodelist q doc) ∙ ap (λ (n : ℕ). min n greatest_count) (sym (length-map (nodelist q doc) (λ (n : Node). n.location)))

@@ -1,8 +1,8 @@
 -- The query of an expression, and the expression of a query.
 use Rattle.std.proofs.Common.{◌≡◌, nat_eq, List, [], ◌∷◌, map, length, Bool, true, false, Some, None, Result, Ok, Err, IfOk, IfErr, is_some, unwrap_or, sym, ap, ◌∙◌, subst}
 use Rattle.jsonpath_base.specs.Prelude.Documents.{AsksPattern, Document, Filter, filter_patterns, holds, no_filters, Node, or, Query, Segment, segments_of, segments_patterns}
-use Rattle.jsonpath_rust.specs.Prelude.Documents.{Halt}
-use Rattle.jsonpath_rust.specs.Prelude.Selection.{expression_of, filter_of, filter_query, IsHalt, Limit}
+use Rattle.jsonpath_rust.specs.Prelude.Documents.{WalkError}
+use Rattle.jsonpath_rust.specs.Prelude.Selection.{expression_of, filter_of, filter_query, IsWalkError, WorkLimit}
 use Rattle.jsonpath_rust.proofs.laws.selection.HaltingLaws.{asked_left, halts_as}
 
 -- the expression of its query is itself
@@ -34,5 +34,5 @@ pub held_as : {E : Type 0} (f : Filter) (q : Query) (d : Document) (n m : Node) 
 held_as f q d n m (Ok b) e k h = h ∙ ap (λ x. holds f d x) k ∙ ap (λ g. holds g d m) (sym (found_expression f q e))
 held_as f q d n m (Err x) e k h = tt
 
-pub refused_as : {A : Type 0} (limit : Limit) (f : Filter) (q : Query) (d : Document) (r : Result A Halt) → Some f ≡ filter_of q → IfErr r (IsHalt limit (filter_patterns f) d) → IfErr r (IsHalt limit (segments_patterns (filter_query (expression_of q))) d)
+pub refused_as : {A : Type 0} (limit : WorkLimit) (f : Filter) (q : Query) (d : Document) (r : Result A WalkError) → Some f ≡ filter_of q → IfErr r (IsWalkError limit (filter_patterns f) d) → IfErr r (IsWalkError limit (segments_patterns (filter_query (expression_of q))) d)
 refused_as limit f q d r e h = halts_as limit r h (λ k. subst (λ g. AsksPattern (segments_patterns (filter_query g)) d) (sym (found_expression f q e)) (filter_asks f k))

@@ -1,8 +1,8 @@
 -- Children that are counted are those that the walk would select.
 use Rattle.std.proofs.Common.{◌≡◌, ℕ, suc, List, [], ◌∷◌, length, map, append-nil, refl, sym, ◌∙◌, ap, Option, None, Some, option_map, option_to_list}
 use Rattle.jsonpath_base.specs.Prelude.Documents.{all_applied, as_list, as_members, children, children_at, Document, element_nodes, elements, flat_map, list, Location, member_nodes, Node, null, number, object, pairs, replaced, root_node, Segment, SingularQuerySegment, step_view, text, Tree, truth, value_at}
-use Rattle.jsonpath_rust.specs.Prelude.Selection.{children_query, steps_query, through}
-use Rattle.jsonpath_rust.proofs.laws.selection.NodelistLaws.{through-applied}
+use Rattle.jsonpath_rust.specs.Prelude.Selection.{children_query, steps_query, selected_from}
+use Rattle.jsonpath_rust.proofs.laws.selection.NodelistLaws.{selected_from-applied}
 use Rattle.jsonpath_rust.proofs.laws.selection.StepLaws.{steps_there, trees_of}
 
 element_nodes-length : (l : Location) (k : ℕ) (ts : List Tree) → length (element_nodes l k ts) ≡ length ts
@@ -41,9 +41,9 @@ children_last : (ss : List Segment) (d : Document) (ns : List Node) → all_appl
 children_last [] d ns = refl
 children_last (s ∷ ss) d ns = children_last ss d (flat_map (replaced s d) ns)
 
-pub children_counted : (ss : List SingularQuerySegment) (d : Document) (n : Node) (o : Option Tree) → o ≡ value_at (map step_view ss) n.tree → length (through (children_query (map step_view ss)) d n) ≡ children_of o
+pub children_counted : (ss : List SingularQuerySegment) (d : Document) (n : Node) (o : Option Tree) → o ≡ value_at (map step_view ss) n.tree → length (selected_from (children_query (map step_view ss)) d n) ≡ children_of o
 children_counted ss d n o e =
-    let found = through-applied (children_query (map step_view ss)) d n ∙ children_last (map step_view ss) d (n ∷ []) in
+    let found = selected_from-applied (children_query (map step_view ss)) d n ∙ children_last (map step_view ss) d (n ∷ []) in
     ap (λ ns. length ns) found ∙ below_one (all_applied (steps_query (map step_view ss)) d (n ∷ [])) o (steps_there ss d n ∙ ap option_to_list (sym e))
 
 pub list_count : (t : Tree) (ts : List Tree) → Some ts ≡ as_list t → length ts ≡ length (children (root_node t))

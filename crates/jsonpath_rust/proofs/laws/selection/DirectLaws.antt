@@ -1,11 +1,11 @@
 -- What is worked out of a look-up is what the meaning makes of its nodes.
 use Rattle.std.proofs.Common.{◌≡◌, ℕ, List, [], ◌∷◌, map, length, nat_lt, ◌∙◌, ap, arith, Option, Some, None, Result, Ok, Err, IfOk, IfSome}
 use Rattle.jsonpath_base.specs.Prelude.Documents.{argued, as_nodes, as_truth, as_value, count_of, count_value, Document, has_node, Node, Query, relative, Segment, SingularQuerySegment, step_view, tested, Tree, truth, value_at}
-use Rattle.jsonpath_rust.specs.Prelude.Selection.{children_argument, children_query, steps_query, through, told, told_of, Wanted}
-use Rattle.jsonpath_rust.specs.declared.selection.sink.Wanted.TheVariants as wanted
+use Rattle.jsonpath_rust.specs.Prelude.Selection.{children_argument, children_query, steps_query, selected_from, demanded_value, told_of, Demand}
+use Rattle.jsonpath_rust.specs.declared.selection.sink.Demand.TheVariants as demand
 use Rattle.jsonpath_base.proofs.lemmas.documents.{relative_value}
 use Rattle.jsonpath_parser.proofs.laws.tree.Steps.{steps_singular}
-use Rattle.jsonpath_rust.proofs.laws.selection.NodelistLaws.{through-applied}
+use Rattle.jsonpath_rust.proofs.laws.selection.NodelistLaws.{selected_from-applied}
 
 -- ---- the value of the only node
 
@@ -14,8 +14,8 @@ looked_up ss d n t e = relative_value (map step_view ss) d n (steps_singular ss)
 
 -- ---- how many there are
 
-pub query_count : (q : Query) (d : Document) (n : Node) (k : ℕ) → k ≡ length (through q d n) → Some (count_value k) ≡ count_of (as_nodes (tested (relative q) d n))
-query_count q d n k h = ap (λ j. Some (count_value j)) (h ∙ ap (λ xs. length xs) (through-applied q d n))
+pub query_count : (q : Query) (d : Document) (n : Node) (k : ℕ) → k ≡ length (selected_from q d n) → Some (count_value k) ≡ count_of (as_nodes (tested (relative q) d n))
+query_count q d n k h = ap (λ j. Some (count_value j)) (h ∙ ap (λ xs. length xs) (selected_from-applied q d n))
 
 -- ---- whether there is one
 
@@ -23,15 +23,15 @@ some_of : (k : ℕ) (ns : List Node) → k ≡ length ns → nat_lt 0 k ≡ has_
 some_of k [] e = ap (λ j. nat_lt 0 j) e
 some_of k (n ∷ ns) e = grind (arith, e)
 
-pub query_there : (q : Query) (d : Document) (n : Node) (k : ℕ) → k ≡ length (through q d n) → nat_lt 0 k ≡ as_truth (tested (relative q) d n)
-query_there q d n k h = some_of k (through q d n) h ∙ ap has_node (through-applied q d n)
+pub query_there : (q : Query) (d : Document) (n : Node) (k : ℕ) → k ≡ length (selected_from q d n) → nat_lt 0 k ≡ as_truth (tested (relative q) d n)
+query_there q d n k h = some_of k (selected_from q d n) h ∙ ap has_node (selected_from-applied q d n)
 
 -- what is wanted of children that are counted
-pub children_told : (w : Wanted) (ss : List Segment) (d : Document) (n : Node) (k : ℕ) → k ≡ length (through (children_query ss) d n) → Some (told_of w k) ≡ told w (argued (children_argument w ss) d n)
-children_told wanted.Any ss d n k h = ap (λ b. Some (truth b)) (query_there (children_query ss) d n k h)
-children_told wanted.Count ss d n k h = query_count (children_query ss) d n k h
-children_told wanted.Sole ss d n k h = query_count (children_query ss) d n k h
-children_told wanted.Values ss d n k h = query_count (children_query ss) d n k h
+pub children_told : (w : Demand) (ss : List Segment) (d : Document) (n : Node) (k : ℕ) → k ≡ length (selected_from (children_query ss) d n) → Some (told_of w k) ≡ demanded_value w (argued (children_argument w ss) d n)
+children_told demand.Exists ss d n k h = ap (λ b. Some (truth b)) (query_there (children_query ss) d n k h)
+children_told demand.Count ss d n k h = query_count (children_query ss) d n k h
+children_told demand.Single ss d n k h = query_count (children_query ss) d n k h
+children_told demand.Values ss d n k h = query_count (children_query ss) d n k h
 
 -- ---- what is at hand
 

@@ -2,14 +2,14 @@
 use Rattle.std.proofs.Common.{◌≡◌, ℕ, ◌<◌, List, [], ◌∷◌, ◌++◌, length, get_or, arith, refl, sym, subst, Bool, Option, Result, IfErr, inl, inr, ◌⊎◌}
 use Rattle.std.proofs.lemmas.List.Elements.{Contains-append_left, Contains-append_right, Contains-append_cases}
 use Rattle.jsonpath_base.specs.Prelude.Documents.{argued, Argument, as_value, AsksPattern, Contains, Document, IsPattern, IsStop, IsValueAt, JsonPathError, Node, OutOfMemory, Query, segments_patterns, Tree}
-use Rattle.jsonpath_rust.specs.Prelude.Documents.{Halt}
-use Rattle.jsonpath_rust.specs.Prelude.Selection.{IsHalt, Limit}
+use Rattle.jsonpath_rust.specs.Prelude.Documents.{WalkError}
+use Rattle.jsonpath_rust.specs.Prelude.Selection.{IsWalkError, WorkLimit}
 use Rattle.jsonpath_base.proofs.lemmas.documents.{contains_part, err_so}
 
 -- ---- more patterns
 
 asked_by : {d : Document} (xs ys : List (Bool × Argument)) → ((p : Bool × Argument) → Contains xs p → Contains ys p) → AsksPattern xs d → AsksPattern ys d
-asked_by xs ys k h = record { entire = h.entire; pattern = h.pattern; stands = k (h.entire, h.pattern) h.stands; node = h.node; here = h.here; read = h.read }
+asked_by xs ys k h = record { entire = h.entire; pattern = h.pattern; stands = k (h.entire, h.pattern) h.stands; node = h.node; at_node = h.at_node; read = h.read }
 
 -- none stands in no part
 pub asked_none : {d : Document} (ys : List (Bool × Argument)) → AsksPattern [] d → AsksPattern ys d
@@ -45,14 +45,14 @@ asked_at_or f all more others xs i x lt e h = asked_by (f x ++ others) (all xs +
 -- ---- halts
 
 -- a halt of a part is one of the whole
-pub halts_as : {A : Type 0} {xs ys : List (Bool × Argument)} {d : Document} (limit : Limit) (r : Result A Halt) → IfErr r (IsHalt limit xs d) → (AsksPattern xs d → AsksPattern ys d) → IfErr r (IsHalt limit ys d)
+pub halts_as : {A : Type 0} {xs ys : List (Bool × Argument)} {d : Document} (limit : WorkLimit) (r : Result A WalkError) → IfErr r (IsWalkError limit xs d) → (AsksPattern xs d → AsksPattern ys d) → IfErr r (IsWalkError limit ys d)
 halts_as limit r h f = err_so r _ _ (λ e k memory spent. f (k memory spent)) h
 
 -- ---- patterns
 
 -- the first pattern is asked at a node
 pub pattern_asked : (d : Document) (entire : Bool) (asked : Argument) (more : List (Bool × Argument)) (n : Node) (o : Option Tree) → IsValueAt d n.location n.tree → o ≡ as_value (argued asked d n) → IsPattern entire o → AsksPattern ((entire, asked) ∷ more) d
-pattern_asked d entire asked more n o here e k = record { entire = entire; pattern = asked; stands = (0, omega arith, refl); node = n; here = here; read = subst (IsPattern entire) e k }
+pattern_asked d entire asked more n o here e k = record { entire = entire; pattern = asked; stands = (0, omega arith, refl); node = n; at_node = here; read = subst (IsPattern entire) e k }
 
 -- a query in which no pattern stands asks none
 none_asked : (q : Query) (doc : Document) → segments_patterns q ≡ [] → AsksPattern (segments_patterns q) doc → ⊥

@@ -2,8 +2,8 @@
 use Rattle.std.proofs.Common.{◌≡◌, ◌+◌, ℕ, suc, zero, List, [], ◌∷◌, ◌++◌, refl, sym, ◌∙◌, ap, Bool, true, false, ◌&&◌, ◌||◌, Option, Some, option_to_list, IsTrue, if◌then◌else◌}
 use Rattle.std.proofs.lemmas.Bool.{and_parts}
 use Rattle.jsonpath_base.specs.Prelude.Documents.{absolute, all_trees, and, answer, argued, Argument, argument, argument_patterns, Arguments, as_nodes, as_trees, as_truth, as_value, Call, call, compare, compares, count_call, count_of, custom_call, Document, each_holds, equal, Evaluated, Filter, filter_argument, segments_patterns, filter_then, Filters, group, holds, is_matched, is_true, length_call, length_of, list, list_all, literal_argument, literal_tree, match_call, negated, no_arguments, no_filters, no_segments, Node, nodelist, null, number, object, of_nodes, of_value, only_value, or, Query, relative, root_node, search_call, some_holds, Test, test, test_argument, tested, text, Tree, truth, value_call}
-use Rattle.jsonpath_rust.specs.Prelude.Selection.{answered, AreRooted, argument_at, argument_in, argument_is_rooted, arguments_are_rooted, asked, call_is_rooted, compared, ConstantPart, Constants, filter_is_rooted, filters_are_rooted, fits, given_by, given_value, is_same_wanted, nodes, part_at, part_is_rooted, part_patterns, test_is_rooted, told, trees_in, truth_of, Wanted, wanted_of}
-use Rattle.jsonpath_rust.specs.declared.selection.sink.Wanted.TheVariants as wanted
+use Rattle.jsonpath_rust.specs.Prelude.Selection.{call_result, AreRooted, argument_at, argument_in, argument_is_rooted, arguments_are_rooted, asked, call_is_rooted, compared, ConstantPart, Constants, filter_is_rooted, filters_are_rooted, fits, result_of, given_value, is_same_demand, nodes, part_at, part_is_rooted, part_patterns, test_is_rooted, demanded_value, trees_in, truth_of, Demand, demand_of}
+use Rattle.jsonpath_rust.specs.declared.selection.sink.Demand.TheVariants as demand
 use Rattle.jsonpath_rust.proofs.laws.selection.Kept.{wanted_given}
 
 mutual
@@ -58,69 +58,69 @@ mutual
 
 -- ---- what is kept
 
-part_rooted : (kept : Constants) (n : ℕ) → AreRooted kept → IsTrue (part_is_rooted (part_at kept n))
+part_rooted : (constants : Constants) (n : ℕ) → AreRooted constants → IsTrue (part_is_rooted (part_at constants n))
 part_rooted [] n h = refl
 part_rooted (p ∷ ps) zero h = (and_parts (part_is_rooted p) (list_all part_is_rooted ps) h).0
 part_rooted (p ∷ ps) (suc n) h = part_rooted ps n (and_parts (part_is_rooted p) (list_all part_is_rooted ps) h).1
 
 -- ---- what is kept of a constant is what it stands for, at each node
 
-same_query : (w v : Wanted) (q r : Query) → IsTrue (is_same_wanted w v) → (w ≡ v) × ((if is_same_wanted w v then q else r) ≡ q)
-same_query wanted.Any wanted.Any q r h = (refl, refl)
-same_query wanted.Count wanted.Count q r h = (refl, refl)
-same_query wanted.Sole wanted.Sole q r h = (refl, refl)
-same_query wanted.Values wanted.Values q r h = (refl, refl)
-same_query wanted.Any wanted.Count q r h = absurd cc
-same_query wanted.Any wanted.Sole q r h = absurd cc
-same_query wanted.Any wanted.Values q r h = absurd cc
-same_query wanted.Count wanted.Any q r h = absurd cc
-same_query wanted.Count wanted.Sole q r h = absurd cc
-same_query wanted.Count wanted.Values q r h = absurd cc
-same_query wanted.Sole wanted.Any q r h = absurd cc
-same_query wanted.Sole wanted.Count q r h = absurd cc
-same_query wanted.Sole wanted.Values q r h = absurd cc
-same_query wanted.Values wanted.Any q r h = absurd cc
-same_query wanted.Values wanted.Count q r h = absurd cc
-same_query wanted.Values wanted.Sole q r h = absurd cc
+same_query : (w v : Demand) (q r : Query) → IsTrue (is_same_demand w v) → (w ≡ v) × ((if is_same_demand w v then q else r) ≡ q)
+same_query demand.Exists demand.Exists q r h = (refl, refl)
+same_query demand.Count demand.Count q r h = (refl, refl)
+same_query demand.Single demand.Single q r h = (refl, refl)
+same_query demand.Values demand.Values q r h = (refl, refl)
+same_query demand.Exists demand.Count q r h = absurd cc
+same_query demand.Exists demand.Single q r h = absurd cc
+same_query demand.Exists demand.Values q r h = absurd cc
+same_query demand.Count demand.Exists q r h = absurd cc
+same_query demand.Count demand.Single q r h = absurd cc
+same_query demand.Count demand.Values q r h = absurd cc
+same_query demand.Single demand.Exists q r h = absurd cc
+same_query demand.Single demand.Count q r h = absurd cc
+same_query demand.Single demand.Values q r h = absurd cc
+same_query demand.Values demand.Exists q r h = absurd cc
+same_query demand.Values demand.Count q r h = absurd cc
+same_query demand.Values demand.Single q r h = absurd cc
 
-pub told_nodes : (w : Wanted) (ns : List Node) → told w (of_nodes ns) ≡ wanted_of w (of_nodes ns)
-told_nodes wanted.Any ns = refl
-told_nodes wanted.Count ns = refl
-told_nodes wanted.Sole ns = refl
-told_nodes wanted.Values ns = refl
+pub told_nodes : (w : Demand) (ns : List Node) → demanded_value w (of_nodes ns) ≡ demand_of w (of_nodes ns)
+told_nodes demand.Exists ns = refl
+told_nodes demand.Count ns = refl
+told_nodes demand.Single ns = refl
+told_nodes demand.Values ns = refl
 
-pub told_one : (w : Wanted) (o : Option Tree) → told w (of_value o) ≡ o
-told_one wanted.Any o = refl
-told_one wanted.Count o = refl
-told_one wanted.Sole o = refl
-told_one wanted.Values o = refl
+pub told_one : (w : Demand) (o : Option Tree) → demanded_value w (of_value o) ≡ o
+told_one demand.Exists o = refl
+told_one demand.Count o = refl
+told_one demand.Single o = refl
+told_one demand.Values o = refl
 
-part_told : (w : Wanted) (p : ConstantPart) (d : Document) (n : Node) → IsTrue (fits w p) → IsTrue (part_is_rooted p) → given_value (Some (given_by p d)) ≡ told w (argued (argument_in w p) d n)
+part_told : (w : Demand) (p : ConstantPart) (d : Document) (n : Node) → IsTrue (fits w p) → IsTrue (part_is_rooted p) → given_value (Some (result_of p d)) ≡ demanded_value w (argued (argument_in w p) d n)
 part_told w (nodes v q) d n f h =
     let same = same_query w v q no_segments f in
-    wanted_given v (of_nodes (nodelist q d)) ∙ ap (λ u. wanted_of u (of_nodes (nodelist q d))) (sym same.0) ∙ ap (λ r. wanted_of w (of_nodes (nodelist r d))) (sym same.1) ∙ sym (told_nodes w _)
-part_told w (answered c) d n f h = call_same c d (root_node d.root) n h ∙ sym (told_one w _)
+    wanted_given v (of_nodes (nodelist q d)) ∙ ap (λ u. demand_of u (of_nodes (nodelist q d))) (sym same.0) ∙ ap (λ r. demand_of w (of_nodes (nodelist r d))) (sym same.1) ∙ sym (told_nodes w _)
+part_told w (call_result c) d n f h = call_same c d (root_node d.root) n h ∙ sym (told_one w _)
 part_told w (compared c) d n f h = ap (λ b. Some (truth b)) (filter_same c d (root_node d.root) n h) ∙ sym (told_one w _)
 
-part_trees : (p : ConstantPart) (d : Document) (n : Node) → IsTrue (fits wanted.Values p) → IsTrue (part_is_rooted p) → trees_in (given_by p d) ≡ as_trees (argued (argument_in wanted.Values p) d n)
-part_trees (nodes wanted.Values q) d n f h = refl
-part_trees (nodes wanted.Any q) d n f h = absurd cc
-part_trees (nodes wanted.Count q) d n f h = absurd cc
-part_trees (nodes wanted.Sole q) d n f h = absurd cc
-part_trees (answered c) d n f h = ap option_to_list (call_same c d (root_node d.root) n h)
+part_trees : (p : ConstantPart) (d : Document) (n : Node) → IsTrue (fits demand.Values p) → IsTrue (part_is_rooted p) → trees_in (result_of p d) ≡ as_trees (argued (argument_in demand.Values p) d n)
+part_trees (nodes demand.Values q) d n f h = refl
+part_trees (nodes demand.Exists q) d n f h = absurd cc
+part_trees (nodes demand.Count q) d n f h = absurd cc
+part_trees (nodes demand.Single q) d n f h = absurd cc
+part_trees (call_result c) d n f h = ap option_to_list (call_same c d (root_node d.root) n h)
 part_trees (compared c) d n f h = ap (λ b. truth b ∷ []) (filter_same c d (root_node d.root) n h)
 
 -- the value of what was wanted
-pub kept_told : (kept : Constants) (k : ℕ) (w : Wanted) (d : Document) (n : Node) → AreRooted kept → IsTrue (fits w (part_at kept k)) → given_value (Some (given_by (part_at kept k) d)) ≡ told w (argued (argument_at kept w k) d n)
-kept_told kept k w d n h f = part_told w (part_at kept k) d n f (part_rooted kept k h)
+pub kept_told : (constants : Constants) (k : ℕ) (w : Demand) (d : Document) (n : Node) → AreRooted constants → IsTrue (fits w (part_at constants k)) → given_value (Some (result_of (part_at constants k) d)) ≡ demanded_value w (argued (argument_at constants w k) d n)
+kept_told constants k w d n h f = part_told w (part_at constants k) d n f (part_rooted constants k h)
 
 -- the values of its nodes
-pub kept_trees : (kept : Constants) (k : ℕ) (d : Document) (n : Node) → AreRooted kept → IsTrue (fits wanted.Values (part_at kept k)) → trees_in (given_by (part_at kept k) d) ≡ as_trees (argued (argument_at kept wanted.Values k) d n)
-kept_trees kept k d n h f = part_trees (part_at kept k) d n f (part_rooted kept k h)
+pub kept_trees : (constants : Constants) (k : ℕ) (d : Document) (n : Node) → AreRooted constants → IsTrue (fits demand.Values (part_at constants k)) → trees_in (result_of (part_at constants k) d) ≡ as_trees (argued (argument_at constants demand.Values k) d n)
+kept_trees constants k d n h f = part_trees (part_at constants k) d n f (part_rooted constants k h)
 
 -- ---- what tests true
 
-pub told_truth : (e : Evaluated) → is_true (told wanted.Any e) ≡ as_truth e
+pub told_truth : (e : Evaluated) → is_true (demanded_value demand.Exists e) ≡ as_truth e
 told_truth (of_value o) = refl
 told_truth (of_nodes ns) = refl
 
@@ -145,7 +145,7 @@ asked_held t (literal_argument l) d n = ap (negated t) (truth_held (literal_argu
 
 -- ---- what is asked of it
 
-pub fit_patterns : (w : Wanted) (p : ConstantPart) → IsTrue (fits w p) → argument_patterns (argument_in w p) ≡ part_patterns p
+pub fit_patterns : (w : Demand) (p : ConstantPart) → IsTrue (fits w p) → argument_patterns (argument_in w p) ≡ part_patterns p
 fit_patterns w (nodes v q) f = ap segments_patterns (same_query w v q no_segments f).1
-fit_patterns w (answered c) f = refl
+fit_patterns w (call_result c) f = refl
 fit_patterns w (compared c) f = refl

@@ -1,10 +1,10 @@
 -- Names and indexes that are looked up lead where the walk would.
 use Rattle.std.proofs.Common.{◌≡◌, List, [], ◌∷◌, map, refl, sym, ◌∙◌, ap, Option, None, Some, is_some, option_map, option_to_list}
 use Rattle.jsonpath_base.specs.Prelude.Documents.{all_applied, argued, Argument, as_trees, as_truth, as_value, Document, has_node, Node, of_nodes, only_value, relative, root_node, SingularQuerySegment, step_view, tested, Tree, value_at}
-use Rattle.jsonpath_rust.specs.Prelude.Selection.{Constants, IsOne, Part, part_view, steps_query, Wanted, wanted_of}
+use Rattle.jsonpath_rust.specs.Prelude.Selection.{Constants, IsOne, Expr, expr_view, steps_query, Demand, demand_of}
 use Rattle.jsonpath_base.proofs.lemmas.documents.{singular_trees}
 use Rattle.jsonpath_parser.proofs.laws.tree.Steps.{steps_singular}
-use Rattle.jsonpath_rust.specs.declared.selection.sink.Wanted.TheVariants as wanted
+use Rattle.jsonpath_rust.specs.declared.selection.sink.Demand.TheVariants as demand
 
 abbrev pub trees_of : List Node → List Tree
 trees_of ns = map (λ n. n.tree) ns
@@ -27,13 +27,13 @@ is_there f o ss d n e = some_node f o (all_applied (steps_query (map step_view s
 -- ---- what is wanted
 
 -- inside a filter no location is kept
-wanted_alone : (w : Wanted) (n : Node) (t : Tree) → n.tree ≡ t → wanted_of w (of_nodes (root_node t ∷ [])) ≡ wanted_of w (of_nodes (n ∷ []))
-wanted_alone wanted.Any n t e = refl
-wanted_alone wanted.Count n t e = refl
-wanted_alone wanted.Sole n t e = ap Some (sym e)
-wanted_alone wanted.Values n t e = refl
+wanted_alone : (w : Demand) (n : Node) (t : Tree) → n.tree ≡ t → demand_of w (of_nodes (root_node t ∷ [])) ≡ demand_of w (of_nodes (n ∷ []))
+wanted_alone demand.Exists n t e = refl
+wanted_alone demand.Count n t e = refl
+wanted_alone demand.Single n t e = ap Some (sym e)
+wanted_alone demand.Values n t e = refl
 
-wanted_there : (w : Wanted) (o : Option Tree) (ns : List Node) → trees_of ns ≡ option_to_list o → wanted_of w (of_nodes (map root_node (option_to_list o))) ≡ wanted_of w (of_nodes ns)
+wanted_there : (w : Demand) (o : Option Tree) (ns : List Node) → trees_of ns ≡ option_to_list o → demand_of w (of_nodes (map root_node (option_to_list o))) ≡ demand_of w (of_nodes ns)
 wanted_there w None [] e = refl
 wanted_there w None (n ∷ ns) e = absurd cc
 wanted_there w (Some t) [] e = absurd cc
@@ -42,7 +42,7 @@ wanted_there w (Some t) (n ∷ []) e =
     wanted_alone w n t same
 wanted_there w (Some t) (n ∷ m ∷ ns) e = absurd cc
 
-pub wanted_found : (w : Wanted) (o : Option Tree) (ss : List SingularQuerySegment) (d : Document) (n : Node) → o ≡ value_at (map step_view ss) n.tree → wanted_of w (of_nodes (map root_node (option_to_list o))) ≡ wanted_of w (tested (relative (steps_query (map step_view ss))) d n)
+pub wanted_found : (w : Demand) (o : Option Tree) (ss : List SingularQuerySegment) (d : Document) (n : Node) → o ≡ value_at (map step_view ss) n.tree → demand_of w (of_nodes (map root_node (option_to_list o))) ≡ demand_of w (tested (relative (steps_query (map step_view ss))) d n)
 wanted_found w o ss d n e = wanted_there w o (all_applied (steps_query (map step_view ss)) d (n ∷ [])) (steps_there ss d n ∙ ap option_to_list (sym e))
 
 -- ---- parts with one value at most
@@ -58,8 +58,8 @@ steps_alone ss d n = alone (all_applied (steps_query (map step_view ss)) d (n �
     alone (n ∷ m ∷ ns) (Some t) e = absurd cc
 
 -- the same of a part in other words
-pub one_as : (kept : Constants) (p : Part) (a : Argument) → part_view kept p wanted.Values ≡ a → part_view kept p wanted.Sole ≡ a → ((d : Document) (n : Node) → as_trees (argued a d n) ≡ option_to_list (as_value (argued a d n))) → IsOne kept p
-one_as kept p a e f h = record {
+pub one_as : (constants : Constants) (p : Expr) (a : Argument) → expr_view constants p demand.Values ≡ a → expr_view constants p demand.Single ≡ a → ((d : Document) (n : Node) → as_trees (argued a d n) ≡ option_to_list (as_value (argued a d n))) → IsOne constants p
+one_as constants p a e f h = record {
   same = e ∙ sym f;
   alone = λ d n. ap (λ x. as_trees (argued x d n)) f ∙ h d n ∙ sym (ap (λ x. option_to_list (as_value (argued x d n))) f);
 }

@@ -4,7 +4,7 @@ use Rattle.std.proofs.Common.{◌≡◌, ℕ, zero, suc, ◌<◌, List, [], ◌�
 use Rattle.std.proofs.lemmas.List.{length-map}
 use Rattle.std.proofs.lemmas.List.Elements.{Contains-append_left, Contains-append_right, All-head, All-tail}
 use Rattle.jsonpath_base.specs.Prelude.Documents.{AllByRecursion, Argument, at, children, Contains, Document, has_distinct_names, IsErrAnd, IsPattern, Segment, Tree}
-use Rattle.jsonpath_rust.specs.Prelude.Documents.{Halt, Memory, Pattern, Spent}
+use Rattle.jsonpath_rust.specs.Prelude.Documents.{WalkError, Memory, Pattern, Spent}
 use Rattle.jsonpath_rust.specs.Prelude.States.{argument_content, AsksPatternAt, Content, content_of, Data, DataIsWhole, found_from, HaltsBelow, has_parts, inside, IsAsked, IsBelow, mapped, Nothing, parents_from, parts_from, plain, Pointer, PointersAreWhole, Ref, ref, Refs, root_content, segment_content, Target, target_of, targets, tops, Value}
 use Rattle.jsonpath_base.proofs.lemmas.documents.{at-append, contains_part, each_at, err_so, passed_on}
 use Rattle.jsonpath_rust.proofs.laws.states.Lies.{LiesIn, Stays, IsDistinct, segment-stays, mapped-parents-stays, stays-children, stays-itself, lies-target}
@@ -12,7 +12,7 @@ use Rattle.jsonpath_rust.proofs.laws.states.Lies.{LiesIn, Stays, IsDistinct, seg
 -- ---- fewer patterns, or fewer states
 
 asks_by : (xs ys : List (Bool × Argument)) (d : Document) (S : Content → Type 0) → ((p : Bool × Argument) → Contains xs p → Contains ys p) → AsksPatternAt xs d S → AsksPatternAt ys d S
-asks_by xs ys d S k h = record { entire = h.entire; pattern = h.pattern; stands = k (h.entire, h.pattern) h.stands; state = h.state; here = h.here; read = h.read }
+asks_by xs ys d S k h = record { entire = h.entire; pattern = h.pattern; stands = k (h.entire, h.pattern) h.stands; state = h.state; at_node = h.at_node; read = h.read }
 
 pub asks_left : {d : Document} {S : Content → Type 0} (xs ys : List (Bool × Argument)) → AsksPatternAt xs d S → AsksPatternAt (xs ++ ys) d S
 asks_left {d} {S} xs ys h = asks_by xs (xs ++ ys) d S (λ p. Contains-append_left xs ys p) h
@@ -36,10 +36,10 @@ asks_at {d} {S} f all more xs i x lt e h = asks_by (f x) (all xs) d S (contains_
 
 -- the first pattern, at this state
 pub asks_here : {S : Content → Type 0} (d : Document) (entire : Bool) (pattern : Argument) (more : List (Bool × Argument)) (s : Content) (o : Option Tree) → S s → o ≡ plain (argument_content pattern d s) → IsPattern entire o → AsksPatternAt ((entire, pattern) ∷ more) d S
-asks_here d entire pattern more s o here e k = record { entire = entire; pattern = pattern; stands = (0, omega arith, refl); state = s; here = here; read = subst (IsPattern entire) e k }
+asks_here d entire pattern more s o here e k = record { entire = entire; pattern = pattern; stands = (0, omega arith, refl); state = s; at_node = here; read = subst (IsPattern entire) e k }
 
 asks_so : (ps : List (Bool × Argument)) (d : Document) (S R : Content → Type 0) → ((s : Content) → S s → R s) → AsksPatternAt ps d S → AsksPatternAt ps d R
-asks_so ps d S R k h = record { entire = h.entire; pattern = h.pattern; stands = h.stands; state = h.state; here = k h.state h.here; read = h.read }
+asks_so ps d S R k h = record { entire = h.entire; pattern = h.pattern; stands = h.stands; state = h.state; at_node = k h.state h.at_node; read = h.read }
 
 -- no pattern asks nothing
 asks_none : (d : Document) (S : Content → Type 0) → AsksPatternAt [] d S → ⊥
@@ -49,12 +49,12 @@ pub asks_nothing : {d : Document} {S R : Content → Type 0} (ps : List (Bool ×
 asks_nothing {d} {S} ps h = absurd (asks_none d S h)
 
 -- so memory alone ran out
-alone_here : (d : Document) (c : Content) (h : Halt) → HaltsBelow [] d c h → h ≡ Memory
+alone_here : (d : Document) (c : Content) (h : WalkError) → HaltsBelow [] d c h → h ≡ Memory
 alone_here d c Memory k = refl
 alone_here d c Pattern k = absurd (asks_none d (IsBelow d c) (k (λ e. let both : Pattern ≡ Memory = e in cc)))
 alone_here d c Spent k = absurd (asks_none d (IsBelow d c) (k (λ e. let both : Spent ≡ Memory = e in cc)))
 
-pub memory_alone : {A : Type 0} (d : Document) (c : Content) (r : Result A Halt) → IfErr r (HaltsBelow [] d c) → IfErr r (λ h. h ≡ Memory)
+pub memory_alone : {A : Type 0} (d : Document) (c : Content) (r : Result A WalkError) → IfErr r (HaltsBelow [] d c) → IfErr r (λ h. h ≡ Memory)
 memory_alone d c r h = err_so r (HaltsBelow [] d c) (λ y. y ≡ Memory) (alone_here d c) h
 
 -- ---- where: what is below targets that lie in a state is below the state
@@ -142,9 +142,9 @@ data-distinct tree whole k Nothing h = tt
 
 -- ---- why an answer is refused, in other words
 
-pub halts_as : {A X Y : Type 0} (r : Result A Halt) → IfErr r (λ y. (y ≡ Memory → ⊥) → X) → (X → Y) → IfErr r (λ y. (y ≡ Memory → ⊥) → Y)
+pub halts_as : {A X Y : Type 0} (r : Result A WalkError) → IfErr r (λ y. (y ≡ Memory → ⊥) → X) → (X → Y) → IfErr r (λ y. (y ≡ Memory → ⊥) → Y)
 halts_as r h f = err_so r _ _ (λ y k m. f (k m)) h
 
 -- of an error that a `?` passes on
-pub halts_so : {A X Y : Type 0} (r : Result A Halt) (h : Halt) → IsErrAnd r (λ y. y ≡ h) → ((h ≡ Memory → ⊥) → X) → (X → Y) → IfErr r (λ y. (y ≡ Memory → ⊥) → Y)
+pub halts_so : {A X Y : Type 0} (r : Result A WalkError) (h : WalkError) → IsErrAnd r (λ y. y ≡ h) → ((h ≡ Memory → ⊥) → X) → (X → Y) → IfErr r (λ y. (y ≡ Memory → ⊥) → Y)
 halts_so r h is k f = passed_on r _ _ is (λ y same m. f (k (λ e. m (same ∙ e))))

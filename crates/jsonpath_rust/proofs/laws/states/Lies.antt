@@ -2,7 +2,7 @@
 use Rattle.std.proofs.Common.{◌≡◌, ℕ, zero, suc, ◌<◌, List, [], ◌∷◌, ◌++◌, length, get_or, map, refl, ◌∙◌, ap, subst, arith, Bool, true, false, Some, option_and_then, IsTrue}
 use Rattle.jsonpath_base.specs.Prelude.Documents.{AllByRecursion, at, children, Contains, descendant, Document, has_distinct_names, list, Location, no_selectors, Node, null, number, object, picks, root_node, Segment, Selector, selector, Selectors, several, size, slice, subtree, text, Tree, truth, wildcard}
 use Rattle.jsonpath_rust.specs.Prelude.States.{children_from, Content, found_from, has_parts, holds_at, in_list, in_parts, indexed_from, inside, joined_from, kept_from, mapped, named_from, nothing, only, parents_from, parents_in, reduced, ref, refs, segment_content, selector_content, sliced_from, some, Target, targets, tops, under, unless_none, value}
-use Rattle.jsonpath_base.proofs.lemmas.documents.{at-append, each-append, each-filter, each-flat_map, Stands, stands-picks, stands-subtree}
+use Rattle.jsonpath_base.proofs.lemmas.documents.{at-append, each-append, each-filter, each-flat_map, IsPositioned, stands-picks, stands-subtree}
 use Rattle.jsonpath_parser.specs.tree.Syntax as syntax
 
 -- the tree is at some location in one of these
@@ -22,7 +22,7 @@ abbrev pub IsDistinct : Target → Type 0
 IsDistinct p = IsTrue (has_distinct_names p.tree)
 
 -- what stands in the tree of a target
-stays-found : (ts : List Tree) (p : Target) (ns : List Node) → Stays ts p → AllByRecursion (Stands p.tree) ns → AllByRecursion (Stays ts) (map (under p.path) ns)
+stays-found : (ts : List Tree) (p : Target) (ns : List Node) → Stays ts p → AllByRecursion (IsPositioned p.tree) ns → AllByRecursion (Stays ts) (map (under p.path) ns)
 stays-found ts p [] h k = tt
 stays-found ts p (n ∷ ns) h k = (
   record {
@@ -32,7 +32,7 @@ stays-found ts p (n ∷ ns) h k = (
   stays-found ts p ns h k.1,
 )
 
-here : (ts : List Tree) (p : Target) → Stays ts p → Stands p.tree (root_node p.tree)
+here : (ts : List Tree) (p : Target) → Stays ts p → IsPositioned p.tree (root_node p.tree)
 here ts p h = record { there = refl; distinct = h.distinct }
 
 -- what a selector without a filter picks there

@@ -1,8 +1,8 @@
 -- How much work a part of a path is.
 use Rattle.std.specs.Prelude.{◌+◌, ℕ}
 use Rattle.jsonpath_base.specs.Prelude.Documents.{filter_effort, filter_view, selectors_effort, selectors_in}
-use Rattle.jsonpath_rust.specs.declared.states.evaluate.segments.Part.{Part}
-use Rattle.jsonpath_rust.specs.declared.states.evaluate.segments.Part.TheVariants.{Name, Wildcard, Index, Slice, Parents, Kept, Joined}
+use Rattle.jsonpath_rust.specs.declared.states.evaluate.segments.NodeOperation.{Part}
+use Rattle.jsonpath_rust.specs.declared.states.evaluate.segments.NodeOperation.TheVariants.{Name, Wildcard, Index, Slice, Parents, Kept, Joined}
 
 abbrev pub part_effort : Part → ℕ
 part_effort (Name s) = 1

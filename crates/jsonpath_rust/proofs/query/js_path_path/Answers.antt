@@ -10,9 +10,9 @@ returns g c =
     let tree = g.T.Queryable.tree in
     let doc = document_of tree g.T.Queryable.custom c.args.value.now in
     let q = runner_view c.runner.result in
-    by_text _ c.args.path.now (prepared_view c.in_ok-query.query) q doc _ _ c.paths.result c.runner.ensures c.in_ok-query.ensures.query c.in_ok-query.ensures.only (λ l is small deep. c.in_ok-query.ensures.normal l is small) (λ l x is same told. only_path l doc q c.args.path.now (paths_of x.items) is same told) c.paths.ensures.told c.paths.ensures.refused
+    by_text _ c.args.path.now (prepared_view c.in_ok-query.query) q doc _ _ c.paths.result c.runner.ensures c.in_ok-query.ensures.query c.in_ok-query.ensures.complete (λ l is small deep. c.in_ok-query.ensures.normal l is small) (λ l x is same told. only_path l doc q c.args.path.now (paths_of x.items) is same told) c.paths.ensures.outcome c.paths.ensures.refused
 
 pub returns-in_err-query : goal.returns-in_err-query
 returns-in_err-query g c =
     let p = err_from_is_err_and c.from_residual.result c.from_residual.ensures.1 in
-    rw (p.1, p.2) (by_refusal _ _ _ _ _ c.in_err-query.field-0.0 c.in_err-query.ensures.only (λ l is small deep. c.in_err-query.ensures.normal l is small) c.in_err-query.ensures.refused)
+    rw (p.1, p.2) (by_refusal _ _ _ _ _ c.in_err-query.field-0.0 c.in_err-query.ensures.complete (λ l is small deep. c.in_err-query.ensures.normal l is small) c.in_err-query.ensures.refused)

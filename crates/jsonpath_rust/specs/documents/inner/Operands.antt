@@ -7,12 +7,12 @@ use Rattle.jsonpath_base.specs.documents.Args.{arg_value}
 use Rattle.jsonpath_rust.specs.documents.inner.Whole.{tree_of, own_tree}
 use Rattle.jsonpath_base.specs.declared.documents.queryable.Queryable.{Ghosts}
 use Rattle.jsonpath_rust.specs.declared.documents.args.Args.{Args}
-use Rattle.jsonpath_rust.specs.declared.documents.operand.Side.{Side}
-use Rattle.jsonpath_rust.specs.declared.documents.operand.Side.TheVariants as side
-use Rattle.jsonpath_rust.specs.declared.documents.operand.Scalar.{Scalar}
-use Rattle.jsonpath_rust.specs.declared.documents.operand.Scalar.TheVariants as scalar
-use Rattle.jsonpath_rust.specs.declared.documents.operand.Operand.{Operand}
-use Rattle.jsonpath_rust.specs.declared.documents.operand.Operand.TheVariants as operand
+use Rattle.jsonpath_rust.specs.declared.documents.filter_value.FilterValueRef.{FilterValueRef}
+use Rattle.jsonpath_rust.specs.declared.documents.filter_value.FilterValueRef.TheVariants as side
+use Rattle.jsonpath_rust.specs.declared.documents.filter_value.Scalar.{Scalar}
+use Rattle.jsonpath_rust.specs.declared.documents.filter_value.Scalar.TheVariants as scalar
+use Rattle.jsonpath_rust.specs.declared.documents.filter_value.FilterValue.{FilterValue}
+use Rattle.jsonpath_rust.specs.declared.documents.filter_value.FilterValue.TheVariants as operand
 
 abbrev pub scalar_tree : Scalar → Tree
 scalar_tree scalar.Null = tree.null
@@ -21,15 +21,15 @@ scalar_tree (scalar.Number n) = tree.number n
 scalar_tree (scalar.Text s) = tree.text s.now
 
 -- the value that a side is, if it is not absent
-abbrev pub side_tree : {A : Type 0} {R : Ghosts A} {D : debug.Ghosts A} → Side A R D → Option Tree
-side_tree side.Absent = None
-side_tree (side.Lent v) = Some (tree_of v)
-side_tree (side.Plain s) = Some (scalar_tree s)
+abbrev pub filter_ref_tree : {A : Type 0} {R : Ghosts A} {D : debug.Ghosts A} → FilterValueRef A R D → Option Tree
+filter_ref_tree side.Absent = None
+filter_ref_tree (side.Lent v) = Some (tree_of v)
+filter_ref_tree (side.Plain s) = Some (scalar_tree s)
 
 -- the value that a part of a filter gives, if there is one
-abbrev pub operand_tree : {A : Type 0} {R : Ghosts A} {D : debug.Ghosts A} → Operand A R D → Option Tree
-operand_tree (operand.Side s) = side_tree s
-operand_tree (operand.Made v) = Some (own_tree v)
+abbrev pub filter_value_tree : {A : Type 0} {R : Ghosts A} {D : debug.Ghosts A} → FilterValue A R D → Option Tree
+filter_value_tree (operand.FilterValueRef s) = filter_ref_tree s
+filter_value_tree (operand.Made v) = Some (own_tree v)
 
 -- the arguments of a custom function
 abbrev pub arg_trees : {A : Type 0} {R : Ghosts A} {D : debug.Ghosts A} → Args A R D → List Tree

@@ -6,32 +6,32 @@ use Rattle.jsonpath_parser.specs.tree.Syntax.{Argument}
 use Rattle.jsonpath_base.specs.documents.Document.{Document}
 use Rattle.jsonpath_base.specs.documents.Node.{Node}
 use Rattle.jsonpath_base.specs.documents.Patterns.{segments_patterns}
-use Rattle.jsonpath_rust.specs.selection.inner.Keeping.{document, kept_of}
+use Rattle.jsonpath_rust.specs.selection.inner.Keeping.{document, constants_of}
 use Rattle.jsonpath_rust.specs.selection.inner.PlanViews.{segments_meant}
-use Rattle.jsonpath_rust.specs.selection.inner.Standing.{Stands}
-use Rattle.jsonpath_rust.specs.selection.inner.Walking.{node_of, through}
+use Rattle.jsonpath_rust.specs.selection.inner.Standing.{IsPositioned}
+use Rattle.jsonpath_rust.specs.selection.inner.Walking.{node_of, selected_from}
 use Rattle.jsonpath_base.specs.declared.documents.queryable.Queryable.{Ghosts}
 use Rattle.jsonpath_rust.specs.declared.documents.whole.WholeRef.{WholeRef}
-use Rattle.jsonpath_rust.specs.declared.selection.onward.Onward.{Onward}
-use Rattle.jsonpath_rust.specs.declared.selection.trail.Trail.{Trail}
-use Rattle.jsonpath_rust.specs.declared.selection.walk.Task.{Task}
+use Rattle.jsonpath_rust.specs.declared.selection.walk.Continuation.{Continuation}
+use Rattle.jsonpath_rust.specs.declared.selection.walk.WalkState.{WalkState}
+use Rattle.jsonpath_rust.specs.declared.selection.walk.WalkContext.{WalkContext}
 
 -- the walk stands at this value, to which the way leads
-abbrev pub StandsAt : {A : Type 0} {R : Ghosts A} {D : debug.Ghosts A} → Task A R D → WholeRef A R D → Trail A R D → Type 0
-StandsAt task x trail = Stands task x trail.way.steps.items trail.cache
+abbrev pub IsPositionedAt : {A : Type 0} {R : Ghosts A} {D : debug.Ghosts A} → WalkContext A R D → WholeRef A R D → WalkState A R D → Type 0
+IsPositionedAt context x state = IsPositioned context x state.current_path.steps.items state.cache
 
 -- the node of the value at hand
-abbrev pub node_at : {A : Type 0} {R : Ghosts A} {D : debug.Ghosts A} → Trail A R D → WholeRef A R D → Node
-node_at trail x = node_of trail.way.steps.items x
+abbrev pub node_at : {A : Type 0} {R : Ghosts A} {D : debug.Ghosts A} → WalkState A R D → WholeRef A R D → Node
+node_at state x = node_of state.current_path.steps.items x
 
 -- what a part of the query means there
-abbrev pub here : {A X : Type 0} {R : Ghosts A} {D : debug.Ghosts A} → Task A R D → Trail A R D → WholeRef A R D → (Document → Node → X) → X
-here task trail x f = f (document task) (node_at trail x)
+abbrev pub at_current : {A X : Type 0} {R : Ghosts A} {D : debug.Ghosts A} → WalkContext A R D → WalkState A R D → WholeRef A R D → (Document → Node → X) → X
+at_current context state x f = f (document context) (node_at state x)
 
 -- what the segments that are left select from each of these nodes
-abbrev pub onward_from : {A N : Type 0} {R : Ghosts A} {D : debug.Ghosts A} → Task A R D → Onward N → List Node → List Node
-onward_from task onward ns = flat_map (through (segments_meant (kept_of task) onward.rest.now) (document task)) ns
+abbrev pub continued_nodes : {A N : Type 0} {R : Ghosts A} {D : debug.Ghosts A} → WalkContext A R D → Continuation N → List Node → List Node
+continued_nodes context continuation ns = flat_map (selected_from (segments_meant (constants_of context) continuation.rest.now) (document context)) ns
 
 -- the patterns that stand in them
-abbrev pub rest_patterns : {A N : Type 0} {R : Ghosts A} {D : debug.Ghosts A} → Task A R D → Onward N → List (Bool × Argument)
-rest_patterns task onward = segments_patterns (segments_meant (kept_of task) onward.rest.now)
+abbrev pub rest_patterns : {A N : Type 0} {R : Ghosts A} {D : debug.Ghosts A} → WalkContext A R D → Continuation N → List (Bool × Argument)
+rest_patterns context continuation = segments_patterns (segments_meant (constants_of context) continuation.rest.now)

@@ -4,8 +4,8 @@ use Rattle.std.specs.declared.fmt.Debug as debug
 use Rattle.jsonpath_base.specs.Tree.{Tree, text, list, object, Trees, no_trees, tree, Members, no_members, member}
 use Rattle.jsonpath_rust.specs.documents.inner.Whole.{tree_of}
 use Rattle.jsonpath_base.specs.declared.documents.queryable.Queryable.{Ghosts}
-use Rattle.jsonpath_rust.specs.declared.documents.operand.Side.{Side}
-use Rattle.jsonpath_rust.specs.declared.documents.operand.Side.TheVariants as side
+use Rattle.jsonpath_rust.specs.declared.documents.filter_value.FilterValueRef.{FilterValueRef}
+use Rattle.jsonpath_rust.specs.declared.documents.filter_value.FilterValueRef.TheVariants as side
 use Rattle.jsonpath_rust.specs.declared.selection.sink.Sink.{Sink}
 use Rattle.jsonpath_rust.specs.declared.selection.sink.Sink.TheVariants as sink
 
@@ -40,7 +40,7 @@ abbrev pub smaller_cost : Tree → Tree → ℕ
 smaller_cost t u = min (min (cost t) (cost u)) (2 ^ 64 - 1)
 
 -- the tree of a side, if it is a value of the document or one that a custom function made
-abbrev pub valued : {A : Type 0} {R : Ghosts A} {D : debug.Ghosts A} → Side A R D → Option Tree
+abbrev pub valued : {A : Type 0} {R : Ghosts A} {D : debug.Ghosts A} → FilterValueRef A R D → Option Tree
 valued side.Absent = None
 valued (side.Lent v) = Some (tree_of v)
 valued (side.Plain s) = None
@@ -61,5 +61,5 @@ node_cost (sink.Nodes ns) n = n / 16
 node_cost (sink.Paths ps) n = n / 16
 node_cost (sink.Few f) n = n / 16
 node_cost (sink.Locations ls) n = n / 4
-node_cost (sink.Removal r copy) n = copy
+node_cost (sink.LocationSet r copy) n = copy
 node_cost _ n = 0

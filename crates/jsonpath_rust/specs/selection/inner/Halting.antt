@@ -3,21 +3,21 @@ use Rattle.std.specs.Prelude.{◌≡◌, List, Bool, true, false}
 use Rattle.jsonpath_parser.specs.tree.Syntax.{Argument}
 use Rattle.jsonpath_base.specs.documents.Document.{Document}
 use Rattle.jsonpath_base.specs.documents.Patterns.{AsksPattern}
-use Rattle.jsonpath_base.specs.declared.documents.halt.Halt.{Halt}
-use Rattle.jsonpath_base.specs.declared.documents.halt.Halt.TheVariants.{Memory, Spent}
-use Rattle.jsonpath_rust.specs.declared.selection.budget.Limit.{Limit}
-use Rattle.jsonpath_rust.specs.declared.selection.budget.Limit.TheVariants.{Limited, Unlimited}
+use Rattle.jsonpath_base.specs.declared.documents.walk_error.WalkError.{WalkError}
+use Rattle.jsonpath_base.specs.declared.documents.walk_error.WalkError.TheVariants.{Memory, Spent}
+use Rattle.jsonpath_rust.specs.declared.selection.limits.WorkLimit.{WorkLimit}
+use Rattle.jsonpath_rust.specs.declared.selection.limits.WorkLimit.TheVariants.{Limited, Unlimited}
 
 -- units are counted where a limit counts them, but of a call that is free
-abbrev pub limit_of : Bool → Bool → Limit
+abbrev pub limit_of : Bool → Bool → WorkLimit
 limit_of true false = Limited
 limit_of true true = Unlimited
 limit_of false free = Unlimited
 
 -- the work that a walk may take ran out, where it is limited
-abbrev pub IsSpent : Limit → Halt → Type 0
+abbrev pub IsSpent : WorkLimit → WalkError → Type 0
 IsSpent limit halt = (halt ≡ Spent) × (limit ≡ Limited)
 
 -- memory ran out, or the work, or one of these patterns has, at some node of the document, a value that is a text which `regex` reads
-abbrev pub IsHalt : Limit → List (Bool × Argument) → Document → Halt → Type 0
-IsHalt limit patterns doc halt = (halt ≡ Memory → ⊥) → (IsSpent limit halt → ⊥) → AsksPattern patterns doc
+abbrev pub IsWalkError : WorkLimit → List (Bool × Argument) → Document → WalkError → Type 0
+IsWalkError limit patterns doc halt = (halt ≡ Memory → ⊥) → (IsSpent limit halt → ⊥) → AsksPattern patterns doc

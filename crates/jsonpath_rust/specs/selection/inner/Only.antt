@@ -1,8 +1,8 @@
 -- What is told of nodes where only one is wanted, for the crate's own contracts: the definitions here are no part of what a query means.
 use Rattle.std.specs.Prelude.{◌≡◌, ◌≤◌, ℕ, List, [], ◌∷◌, length, string_bytes}
 use Rattle.jsonpath_base.specs.Tree.{Tree}
-use Rattle.jsonpath_rust.specs.declared.selection.only.Only.{Only}
-use Rattle.jsonpath_rust.specs.declared.selection.only.Only.TheVariants.{Nothing, One, Several}
+use Rattle.jsonpath_rust.specs.declared.selection.sink.Only.{Only}
+use Rattle.jsonpath_rust.specs.declared.selection.sink.Only.TheVariants.{Nothing, One, Several}
 
 -- these nodes are none, or this one alone, or several
 abbrev pub IsOnlyOf : {A : Type 0} → (A → Tree) → List (List ℕ × Tree) → Only A → Type 0

@@ -7,10 +7,10 @@ use Rattle.jsonpath_base.specs.documents.Document.{Document}
 use Rattle.jsonpath_base.specs.documents.Meaning.{replaced}
 use Rattle.jsonpath_base.specs.documents.Node.{Node, children}
 use Rattle.jsonpath_base.specs.documents.Patterns.{segment_patterns}
-use Rattle.jsonpath_rust.specs.selection.inner.PlanViews.{answered, compared, ConstantPart, Constants, filter_view, nodes, segment_view}
-use Rattle.jsonpath_rust.specs.selection.inner.Walking.{acted, action_patterns}
-use Rattle.jsonpath_rust.specs.declared.selection.action.Action.{Action}
-use Rattle.jsonpath_rust.specs.declared.selection.action.Action.TheVariants.{All, If, Below}
+use Rattle.jsonpath_rust.specs.selection.inner.PlanViews.{call_result, compared, ConstantPart, Constants, filter_view, nodes, segment_view}
+use Rattle.jsonpath_rust.specs.selection.inner.Walking.{visited_nodes, visit_patterns}
+use Rattle.jsonpath_rust.specs.declared.selection.walk.Visit.{Visit}
+use Rattle.jsonpath_rust.specs.declared.selection.walk.Visit.TheVariants as visit
 
 -- how much work it is to work out what is kept of a part
 abbrev pub kept_effort : ℕ → Argument → ℕ
@@ -21,17 +21,17 @@ kept_effort r (filter_argument f) = filter_effort r f
 -- the same, where the walk stands at the root already
 abbrev pub constant_effort : ℕ → ConstantPart → ℕ
 constant_effort r (nodes w q) = segments_effort r q + 5 * r + 12
-constant_effort r (answered c) = call_effort r c + 5 * r + 8
+constant_effort r (call_result c) = call_effort r c + 5 * r + 8
 constant_effort r (compared f) = filter_effort r f - 1
 
 -- how much work an action is
-abbrev pub action_effort : ℕ → Constants → Action → ℕ
-action_effort r kept All = 2
-action_effort r kept (If f) = filter_effort r (filter_view kept f.now) + 12
-action_effort r kept (Below g) = segment_effort r (segment_view kept g.now) + 1
+abbrev pub visit_effort : ℕ → Constants → Visit → ℕ
+visit_effort r constants visit.Continue = 2
+visit_effort r constants (visit.Filter f) = filter_effort r (filter_view constants f.now) + 12
+visit_effort r constants (visit.Descend g) = segment_effort r (segment_view constants g.now) + 1
 
 -- the action at each child makes the nodes of the segment
-pub record GoesToEachChild (kept : Constants) (g : Segment) (action : Action) : Type 0 where
-  pub makes : (d : Document) (n : Node) → flat_map (acted kept action d) (children n) ≡ replaced g d n
-  pub patterns : action_patterns kept action ≡ segment_patterns g
-  pub lighter : (r : ℕ) → action_effort r kept action ≤ segment_effort r g
+pub record GoesToEachChild (constants : Constants) (g : Segment) (action : Visit) : Type 0 where
+  pub makes : (d : Document) (n : Node) → flat_map (visited_nodes constants action d) (children n) ≡ replaced g d n
+  pub patterns : visit_patterns constants action ≡ segment_patterns g
+  pub lighter : (r : ℕ) → visit_effort r constants action ≤ segment_effort r g

@@ -1,16 +1,16 @@
 -- How a plan is made, for the contracts of its maker alone: the definitions here are no part of what a query means.
 use Rattle.std.specs.Prelude.{◌≡◌, ℕ, Bool, true, List, [], ◌∷◌, ◌++◌, map, length, IsTrue}
 use Rattle.jsonpath_parser.specs.tree.Syntax as tree
-use Rattle.jsonpath_rust.specs.selection.inner.PlanViews.{Constants, ConstantPart, compared, kept_view, part_at, part_is_rooted, constant_view, AreRooted, filter_view}
+use Rattle.jsonpath_rust.specs.selection.inner.PlanViews.{Constants, ConstantPart, compared, constants_view, part_at, part_is_rooted, constant_view, AreRooted, filter_view}
 use Rattle.jsonpath_rust.specs.selection.inner.Rooted.{filter_is_rooted}
 use Rattle.jsonpath_rust.specs.declared.selection.plan.Filter.{Filter}
 use Rattle.jsonpath_rust.specs.declared.selection.plan.Constant.{Constant}
 use Rattle.jsonpath_rust.specs.declared.selection.plan.make.Maker.{Maker}
-use Rattle.jsonpath_rust.specs.declared.selection.plan.numbering.Met.{Met}
+use Rattle.jsonpath_rust.specs.declared.selection.plan.numbering.Scope.{Scope}
 
 -- what is kept so far
-abbrev pub kept_in : Maker → Constants
-kept_in m = kept_view m.constants.items
+abbrev pub constants_in : Maker → Constants
+constants_in m = constants_view m.constants.items
 
 -- the same is kept, and more behind it
 pub record Extends (old new : Constants) : Type 0 where
@@ -19,20 +19,20 @@ pub record Extends (old new : Constants) : Type 0 where
 
 -- what these constants stand for where this is kept
 abbrev pub parts_where : Constants → List Constant → Constants
-parts_where kept es = map (constant_view kept) es
+parts_where constants es = map (constant_view constants) es
 
 -- Each constant stands for the same, whatever is kept behind all of them, and has no `@`.
 pub record IsRight (m : Maker) : Type 0 where
-  pub settled : (kept : Constants) → Extends (kept_in m) kept → parts_where kept m.constants.items ≡ kept_in m
-  pub rooted : AreRooted (kept_in m)
+  pub stable : (constants : Constants) → Extends (constants_in m) constants → parts_where constants m.constants.items ≡ constants_in m
+  pub rooted : AreRooted (constants_in m)
 
 -- The part that was made stands for this, where what is kept now is kept, whatever is kept behind it. Where no `@` is met by
 -- its end, none was before it, and what it stands for passes the test that it has no `@`.
 pub record Made {A : Type 0} (test : A → Bool) (old new : Maker) (part : Constants → A) (a : A) : Type 0 where
-  pub grows : Extends (kept_in old) (kept_in new)
-  pub says : IsRight old → (kept : Constants) → Extends (kept_in new) kept → part kept ≡ a
+  pub grows : Extends (constants_in old) (constants_in new)
+  pub says : IsRight old → (constants : Constants) → Extends (constants_in new) constants → part constants ≡ a
   pub right : IsRight old → IsRight new
-  pub rooted : IsTrue new.met.rooted → IsTrue old.met.rooted × IsTrue (test a)
+  pub rooted : IsTrue new.scope.rooted → IsTrue old.scope.rooted × IsTrue (test a)
 
 -- the test of what no constant is made of: all pass it
 abbrev pub every : {A : Type 0} → A → Bool
@@ -41,18 +41,18 @@ every a = true
 -- nothing was kept between the two, and the second has this for whether no `@` was met
 pub record IsBeside (old new : Maker) (rooted : Bool) : Type 0 where
   pub same : new.constants.items ≡ old.constants.items
-  pub met : new.met.rooted ≡ rooted
+  pub met : new.scope.rooted ≡ rooted
 
 -- this constant is kept too, and has this number
 pub record IsKept (old new : Maker) (part : Constant) (n : ℕ) : Type 0 where
   pub number : n ≡ length old.constants.items
   pub constants : new.constants.items ≡ old.constants.items ++ part ∷ []
-  pub met : new.met.rooted ≡ old.met.rooted
+  pub met : new.scope.rooted ≡ old.scope.rooted
 
 -- What the part that was made stands for, its number stands for too, where it has no `@`.
 pub record IsNumbered (old new : Maker) (part : Constant) (n : ℕ) : Type 0 where
-  pub made : {first : Maker} {p : ConstantPart} → Made part_is_rooted first old (λ kept. constant_view kept part) p → IsTrue (part_is_rooted p) → Made part_is_rooted first new (λ kept. part_at kept n) p
+  pub made : {first : Maker} {p : ConstantPart} → Made part_is_rooted first old (λ constants. constant_view constants part) p → IsTrue (part_is_rooted p) → Made part_is_rooted first new (λ constants. part_at constants n) p
 
 -- what the comparison that was begun and made stands for, the filter stands for too
-pub record IsCompared (around : Met) (old new : Maker) (part : Constant) (f : Filter) : Type 0 where
-  pub made : {first begun : Maker} {c : tree.Filter} → IsBeside begun first around.rooted → Made part_is_rooted begun old (λ kept. constant_view kept part) (compared c) → Made filter_is_rooted first new (λ kept. filter_view kept f) c
+pub record IsCompared (around : Scope) (old new : Maker) (part : Constant) (f : Filter) : Type 0 where
+  pub made : {first begun : Maker} {c : tree.Filter} → IsBeside begun first around.rooted → Made part_is_rooted begun old (λ constants. constant_view constants part) (compared c) → Made filter_is_rooted first new (λ constants. filter_view constants f) c

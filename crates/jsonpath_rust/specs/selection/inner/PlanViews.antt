@@ -10,30 +10,30 @@ use Rattle.jsonpath_rust.specs.declared.selection.plan.Constant.TheVariants as c
 use Rattle.jsonpath_rust.specs.selection.inner.Rooted.{Call-set, Filter-set, call_is_rooted, filter_is_rooted, Query-set}
 use Rattle.jsonpath_rust.specs.declared.selection.plan.Call.{Call, Call-F, fold-Call}
 use Rattle.jsonpath_rust.specs.declared.selection.plan.Filter.{Filter, Filter-F, fold-Filter}
-use Rattle.jsonpath_rust.specs.declared.selection.plan.Part.{Part, Part-F, fold-Part}
+use Rattle.jsonpath_rust.specs.declared.selection.plan.Expr.{Expr, Expr-F, fold-Expr}
 use Rattle.jsonpath_rust.specs.declared.selection.plan.Segment.{Segment, Segment-F, fold-Segment}
 use Rattle.jsonpath_rust.specs.declared.selection.plan.Selector.{Selector, Selector-F, fold-Selector}
-use Rattle.jsonpath_rust.specs.declared.selection.sink.Wanted.{Wanted}
-use Rattle.jsonpath_rust.specs.declared.selection.sink.Wanted.TheVariants.{Any, Count, Sole, Values}
+use Rattle.jsonpath_rust.specs.declared.selection.sink.Demand.{Demand}
+use Rattle.jsonpath_rust.specs.declared.selection.sink.Demand.TheVariants.{Exists, Count, Single, Values}
 
-abbrev pub is_same_wanted : Wanted → Wanted → Bool
-is_same_wanted Any Any = true
-is_same_wanted Count Count = true
-is_same_wanted Sole Sole = true
-is_same_wanted Values Values = true
-is_same_wanted _ _ = false
+abbrev pub is_same_demand : Demand → Demand → Bool
+is_same_demand Exists Exists = true
+is_same_demand Count Count = true
+is_same_demand Single Single = true
+is_same_demand Values Values = true
+is_same_demand _ _ = false
 
 -- whether a count of nodes tells what is wanted of them
-abbrev pub is_counted : Wanted → Bool
-is_counted Any = true
+abbrev pub is_counted : Demand → Bool
+is_counted Exists = true
 is_counted Count = true
 is_counted _ = false
 
 -- a part of the query without `@`: what is wanted of the nodes of a query from the root, what a call answers, or whether a filter holds,
 -- which is a comparison in each plan that is made
 pub data ConstantPart : Type 0 where
-  nodes : Wanted → tree.Query → ConstantPart
-  answered : tree.Call → ConstantPart
+  nodes : Demand → tree.Query → ConstantPart
+  call_result : tree.Call → ConstantPart
   compared : tree.Filter → ConstantPart
   deriving IsSet as ConstantPart_set
 
@@ -50,19 +50,19 @@ Constants-set = is_set (ConstantPart_set (hlevel sets) Query-set Call-set Filter
 -- it has no `@`
 abbrev pub part_is_rooted : ConstantPart → Bool
 part_is_rooted (nodes v q) = true
-part_is_rooted (answered c) = call_is_rooted c
+part_is_rooted (call_result c) = call_is_rooted c
 part_is_rooted (compared c) = filter_is_rooted c
 
 abbrev pub AreRooted : Constants → Type 0
-AreRooted kept = IsTrue (list_all part_is_rooted kept)
+AreRooted constants = IsTrue (list_all part_is_rooted constants)
 
 -- `$` where none is kept
 abbrev pub part_at : Constants → ℕ → ConstantPart
-part_at kept n = get_or kept n (nodes Any tree.no_segments)
+part_at constants n = get_or constants n (nodes Exists tree.no_segments)
 
 -- whether it is no query, or one of which this is wanted
-abbrev pub fits : Wanted → ConstantPart → Bool
-fits w (nodes v q) = is_same_wanted w v
+abbrev pub fits : Demand → ConstantPart → Bool
+fits w (nodes v q) = is_same_demand w v
 fits w _ = true
 
 abbrev pub is_query_part : ConstantPart → Bool
@@ -70,13 +70,13 @@ is_query_part (nodes v q) = true
 is_query_part _ = false
 
 -- the part of a query that is kept, where this is wanted of it; `$` in the place of a query of which another is
-abbrev pub argument_in : Wanted → ConstantPart → tree.Argument
-argument_in w (nodes v q) = tree.test_argument (tree.absolute (if is_same_wanted w v then q else tree.no_segments))
-argument_in w (answered c) = tree.test_argument (tree.call c)
+abbrev pub argument_in : Demand → ConstantPart → tree.Argument
+argument_in w (nodes v q) = tree.test_argument (tree.absolute (if is_same_demand w v then q else tree.no_segments))
+argument_in w (call_result c) = tree.test_argument (tree.call c)
 argument_in w (compared f) = tree.filter_argument f
 
-abbrev pub argument_at : Constants → Wanted → ℕ → tree.Argument
-argument_at kept w n = argument_in w (part_at kept n)
+abbrev pub argument_at : Constants → Demand → ℕ → tree.Argument
+argument_at constants w n = argument_in w (part_at constants n)
 
 -- the filter that tests it: a filter is one itself
 abbrev pub truth_of : tree.Argument → tree.Filter
@@ -98,41 +98,41 @@ abbrev pub children_query : List tree.Segment → tree.Query
 children_query ss = segments_of (ss ++ tree.one tree.wildcard ∷ [])
 
 -- these, where their count tells what is wanted; else their count
-abbrev pub children_argument : Wanted → List tree.Segment → tree.Argument
-children_argument Any ss = tree.test_argument (tree.relative (children_query ss))
+abbrev pub children_argument : Demand → List tree.Segment → tree.Argument
+children_argument Exists ss = tree.test_argument (tree.relative (children_query ss))
 children_argument Count ss = tree.test_argument (tree.relative (children_query ss))
 children_argument _ ss = tree.test_argument (tree.call (tree.count_call (tree.test_argument (tree.relative (children_query ss)))))
 
 -- One layer of each type, with its parts seen already. Parts of filters are seen for what is wanted of them.
 
 abbrev pub Layer : (Type 0 → Type 0 → Type 0 → Type 0 → Type 0 → Type 0) → Type 0
-Layer F = F tree.Call tree.Filter (Wanted → tree.Argument) tree.Segment tree.Selector
+Layer F = F tree.Call tree.Filter (Demand → tree.Argument) tree.Segment tree.Selector
 
 abbrev pub call_step : Layer Call-F → tree.Call
 call_step (Call-F.Custom s v) = tree.custom_call (string_bytes s) (arguments_of (map (λ x. x Values) v.items))
-call_step (Call-F.Length a) = tree.length_call (a Sole)
-call_step (Call-F.Value a) = tree.value_call (a Sole)
+call_step (Call-F.Length a) = tree.length_call (a Single)
+call_step (Call-F.Value a) = tree.value_call (a Single)
 call_step (Call-F.Count a) = tree.count_call (a Count)
-call_step (Call-F.Search a b) = tree.search_call (a Sole) (b Sole)
-call_step (Call-F.Match a b) = tree.match_call (a Sole) (b Sole)
+call_step (Call-F.Search a b) = tree.search_call (a Single) (b Single)
+call_step (Call-F.Match a b) = tree.match_call (a Single) (b Single)
 
 abbrev pub filter_step : Constants → Layer Filter-F → tree.Filter
-filter_step kept (Filter-F.Or v) = tree.or (filters_of v.items)
-filter_step kept (Filter-F.And v) = tree.and (filters_of v.items)
-filter_step kept (Filter-F.Group f not) = tree.group not f.value
-filter_step kept (Filter-F.Test a not) = asked not (a Any)
-filter_step kept (Filter-F.Comparison op a b) = tree.compare (operator_view op) (a Sole) (b Sole)
-filter_step kept (Filter-F.«Filter::Constant» n) = truth_of (argument_at kept Any n)
+filter_step constants (Filter-F.Or v) = tree.or (filters_of v.items)
+filter_step constants (Filter-F.And v) = tree.and (filters_of v.items)
+filter_step constants (Filter-F.Group f not) = tree.group not f.value
+filter_step constants (Filter-F.Test a not) = asked not (a Exists)
+filter_step constants (Filter-F.Comparison op a b) = tree.compare (operator_view op) (a Single) (b Single)
+filter_step constants (Filter-F.«Filter::Constant» n) = truth_of (argument_at constants Exists n)
 
-abbrev pub part_step : Constants → Layer Part-F → Wanted → tree.Argument
-part_step kept (Part-F.Literal l) w = tree.literal_argument (literal_view l)
-part_step kept (Part-F.Pattern s n) w = tree.literal_argument (tree.string (string_bytes s))
-part_step kept (Part-F.Lookup v) w = tree.test_argument (tree.relative (steps_query (map step_view v.items)))
-part_step kept (Part-F.Children v) w = children_argument w (map step_view v.items)
-part_step kept (Part-F.Walk v) w = tree.test_argument (tree.relative (segments_of v.items))
-part_step kept (Part-F.Call c) w = tree.test_argument (tree.call c.value)
-part_step kept (Part-F.«Part::Filter» f) w = tree.filter_argument f.value
-part_step kept (Part-F.«Part::Constant» n) w = argument_at kept w n
+abbrev pub part_step : Constants → Layer Expr-F → Demand → tree.Argument
+part_step constants (Expr-F.Literal l) w = tree.literal_argument (literal_view l)
+part_step constants (Expr-F.Pattern s n) w = tree.literal_argument (tree.string (string_bytes s))
+part_step constants (Expr-F.Lookup v) w = tree.test_argument (tree.relative (steps_query (map step_view v.items)))
+part_step constants (Expr-F.Children v) w = children_argument w (map step_view v.items)
+part_step constants (Expr-F.Walk v) w = tree.test_argument (tree.relative (segments_of v.items))
+part_step constants (Expr-F.Call c) w = tree.test_argument (tree.call c.value)
+part_step constants (Expr-F.«Expr::Filter» f) w = tree.filter_argument f.value
+part_step constants (Expr-F.«Expr::Constant» n) w = argument_at constants w n
 
 abbrev pub segment_step : Layer Segment-F → tree.Segment
 segment_step (Segment-F.Descendant s) = tree.descendant s.value
@@ -149,57 +149,57 @@ selector_step (Selector-F.«Selector::Filter» f) = tree.filter f
 -- The folds. The steps stand in the order of the types, by alphabet.
 
 abbrev pub call_view : Constants → Call → tree.Call
-call_view kept = fold-Call tree.Call tree.Filter (Wanted → tree.Argument) tree.Segment tree.Selector call_step (filter_step kept) (part_step kept) segment_step selector_step
+call_view constants = fold-Call tree.Call tree.Filter (Demand → tree.Argument) tree.Segment tree.Selector call_step (filter_step constants) (part_step constants) segment_step selector_step
 
 abbrev pub filter_view : Constants → Filter → tree.Filter
-filter_view kept = fold-Filter tree.Call tree.Filter (Wanted → tree.Argument) tree.Segment tree.Selector call_step (filter_step kept) (part_step kept) segment_step selector_step
+filter_view constants = fold-Filter tree.Call tree.Filter (Demand → tree.Argument) tree.Segment tree.Selector call_step (filter_step constants) (part_step constants) segment_step selector_step
 
-abbrev pub part_view : Constants → Part → Wanted → tree.Argument
-part_view kept = fold-Part tree.Call tree.Filter (Wanted → tree.Argument) tree.Segment tree.Selector call_step (filter_step kept) (part_step kept) segment_step selector_step
+abbrev pub expr_view : Constants → Expr → Demand → tree.Argument
+expr_view constants = fold-Expr tree.Call tree.Filter (Demand → tree.Argument) tree.Segment tree.Selector call_step (filter_step constants) (part_step constants) segment_step selector_step
 
 abbrev pub segment_view : Constants → Segment → tree.Segment
-segment_view kept = fold-Segment tree.Call tree.Filter (Wanted → tree.Argument) tree.Segment tree.Selector call_step (filter_step kept) (part_step kept) segment_step selector_step
+segment_view constants = fold-Segment tree.Call tree.Filter (Demand → tree.Argument) tree.Segment tree.Selector call_step (filter_step constants) (part_step constants) segment_step selector_step
 
 abbrev pub selector_view : Constants → Selector → tree.Selector
-selector_view kept = fold-Selector tree.Call tree.Filter (Wanted → tree.Argument) tree.Segment tree.Selector call_step (filter_step kept) (part_step kept) segment_step selector_step
+selector_view constants = fold-Selector tree.Call tree.Filter (Demand → tree.Argument) tree.Segment tree.Selector call_step (filter_step constants) (part_step constants) segment_step selector_step
 
 -- lists of parts, one behind the other
 abbrev pub segments_meant : Constants → List Segment → tree.Segments
-segments_meant kept gs = segments_of (map (segment_view kept) gs)
+segments_meant constants gs = segments_of (map (segment_view constants) gs)
 
 abbrev pub selectors_meant : Constants → List Selector → tree.Selectors
-selectors_meant kept ss = selectors_of (map (selector_view kept) ss)
+selectors_meant constants ss = selectors_of (map (selector_view constants) ss)
 
 abbrev pub filters_meant : Constants → List Filter → tree.Filters
-filters_meant kept fs = filters_of (map (filter_view kept) fs)
+filters_meant constants fs = filters_of (map (filter_view constants) fs)
 
 -- the arguments of a custom function
-abbrev pub arguments_meant : Constants → List Part → tree.Arguments
-arguments_meant kept args = arguments_of (map (λ a. part_view kept a Values) args)
+abbrev pub arguments_meant : Constants → List Expr → tree.Arguments
+arguments_meant constants args = arguments_of (map (λ a. expr_view constants a Values) args)
 
 -- each stands for a part where those before it are kept
 abbrev pub constant_view : Constants → Constant → ConstantPart
-constant_view kept (constant.Nodes gs w n) = nodes w (segments_meant kept gs.items)
-constant_view kept (constant.Answer c) = answered (call_view kept c)
-constant_view kept (constant.Comparison op a b) = compared (tree.compare (operator_view op) (part_view kept a Sole) (part_view kept b Sole))
+constant_view constants (constant.Nodes gs w n) = nodes w (segments_meant constants gs.items)
+constant_view constants (constant.Answer c) = call_result (call_view constants c)
+constant_view constants (constant.Comparison op a b) = compared (tree.compare (operator_view op) (expr_view constants a Single) (expr_view constants b Single))
 
 abbrev pub kept_from : Constants → List Constant → Constants
-kept_from kept [] = kept
-kept_from kept (e ∷ es) = kept_from (kept ++ constant_view kept e ∷ []) es
+kept_from constants [] = constants
+kept_from constants (e ∷ es) = kept_from (constants ++ constant_view constants e ∷ []) es
 
-abbrev pub kept_view : List Constant → Constants
-kept_view es = kept_from [] es
+abbrev pub constants_view : List Constant → Constants
+constants_view es = kept_from [] es
 
 -- each stands for the same part where all are kept
-abbrev pub IsSettled : List Constant → Type 0
-IsSettled es = map (constant_view (kept_view es)) es ≡ kept_view es
+abbrev pub IsStable : List Constant → Type 0
+IsStable es = map (constant_view (constants_view es)) es ≡ constants_view es
 
-pub IsSettled-prop : (es : List Constant) → IsProp (IsSettled es)
-IsSettled-prop es = Constants-set (map (constant_view (kept_view es)) es) (kept_view es)
+pub IsStable-prop : (es : List Constant) → IsProp (IsStable es)
+IsStable-prop es = Constants-set (map (constant_view (constants_view es)) es) (constants_view es)
 
 -- none has an `@`
 abbrev pub IsRooted : List Constant → Type 0
-IsRooted es = AreRooted (kept_view es)
+IsRooted es = AreRooted (constants_view es)
 
 pub IsRooted-prop : (es : List Constant) → IsProp (IsRooted es)
-IsRooted-prop es = Coded-set coded_bool (list_all part_is_rooted (kept_view es)) true
+IsRooted-prop es = Coded-set coded_bool (list_all part_is_rooted (constants_view es)) true

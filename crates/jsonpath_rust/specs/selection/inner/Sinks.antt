@@ -5,10 +5,10 @@ use Rattle.jsonpath_parser.specs.Location.{Location}
 use Rattle.jsonpath_parser.specs.Normal.{normal}
 use Rattle.jsonpath_base.specs.Steps.{location_view, lent_location}
 use Rattle.jsonpath_base.specs.Tree.{Tree}
-use Rattle.jsonpath_base.specs.RemovalViews.{removal_set, removal_count, LastBegins}
+use Rattle.jsonpath_base.specs.LocationSetViews.{location_set, location_count, LastBegins}
 use Rattle.jsonpath_base.specs.Without.{is_among, distinct_count, also, counted_with}
-use Rattle.jsonpath_base.specs.declared.removal.Removal.{Removal}
-use Rattle.jsonpath_base.specs.declared.way.Way.{Way}
+use Rattle.jsonpath_base.specs.declared.removal.LocationSet.{LocationSet}
+use Rattle.jsonpath_base.specs.declared.current_path.CurrentPath.{CurrentPath}
 use Rattle.jsonpath_base.specs.documents.Node.{Node}
 use Rattle.jsonpath_base.specs.documents.Answer.{shown, paths_of}
 use Rattle.jsonpath_base.specs.documents.Functions.{greatest_count}
@@ -16,10 +16,10 @@ use Rattle.jsonpath_rust.specs.documents.inner.Whole.{tree_of}
 use Rattle.jsonpath_rust.specs.declared.selection.sink.FirstNodes.{FirstNodes}
 use Rattle.jsonpath_rust.specs.declared.selection.sink.Sink.{Sink}
 use Rattle.jsonpath_rust.specs.declared.selection.sink.Sink.TheVariants as sink
-use Rattle.jsonpath_rust.specs.declared.selection.sink.Wanted.{Wanted}
-use Rattle.jsonpath_rust.specs.declared.selection.sink.Wanted.TheVariants as wanted
-use Rattle.jsonpath_rust.specs.declared.documents.nodes.WholeSole.{WholeSole}
-use Rattle.jsonpath_rust.specs.declared.documents.nodes.WholeSole.TheVariants.{Nothing, One, Several}
+use Rattle.jsonpath_rust.specs.declared.selection.sink.Demand.{Demand}
+use Rattle.jsonpath_rust.specs.declared.selection.sink.Demand.TheVariants as demand
+use Rattle.jsonpath_rust.specs.declared.documents.nodes.WholeSingle.{WholeSingle}
+use Rattle.jsonpath_rust.specs.declared.documents.nodes.WholeSingle.TheVariants.{Nothing, One, Several}
 use Rattle.jsonpath_base.specs.declared.documents.queryable.Queryable.{Ghosts}
 
 -- a node as it is answered: its Normalized Path and its tree
@@ -39,7 +39,7 @@ pub data Seen : Type 0 where
   several : Seen
   few : ℕ → List (List ℕ × Tree) → Seen
 
-abbrev pub seen_sole : {A : Type 0} {R : Ghosts A} {D : debug.Ghosts A} → WholeSole A R D → Seen
+abbrev pub seen_sole : {A : Type 0} {R : Ghosts A} {D : debug.Ghosts A} → WholeSingle A R D → Seen
 seen_sole Nothing = nothing
 seen_sole (One v) = one (tree_of v)
 seen_sole Several = several
@@ -52,17 +52,17 @@ seen {R = R} (sink.Nodes ns) = nodes (shown R.tree ns.list.items)
 seen (sink.Paths ps) = paths (paths_of ps.items)
 seen {R = R} (sink.Values vs) = values (map (λ v. R.tree v.now) vs.list.items)
 seen (sink.Locations ls) = locations (map (λ l. location_view l.items) ls.items)
-seen (sink.Removal r copy) = removal (removal_set r.value) (removal_count r.value)
+seen (sink.LocationSet r copy) = removal (location_set r.value) (location_count r.value)
 seen (sink.Count room most) = counted room most
-seen (sink.Sole o) = seen_sole o
+seen (sink.Single o) = seen_sole o
 seen (sink.Few f) = seen_few f
 
 -- before any node
-abbrev pub start : Wanted → Seen
-start wanted.Any = counted 1 1
-start wanted.Count = counted greatest_count greatest_count
-start wanted.Sole = nothing
-start wanted.Values = values []
+abbrev pub start : Demand → Seen
+start demand.Exists = counted 1 1
+start demand.Count = counted greatest_count greatest_count
+start demand.Single = nothing
+start demand.Values = values []
 
 abbrev pub add : Seen → Node → Seen
 add (nodes ns) n = nodes (ns ++ path_and_tree n ∷ [])
@@ -77,9 +77,9 @@ add several n = several
 add (few zero ns) n = few zero ns
 add (few (suc room) ns) n = few room (ns ++ path_and_tree n ∷ [])
 
-abbrev pub give : Seen → List Node → Seen
-give s [] = s
-give s (n ∷ ns) = give (add s n) ns
+abbrev pub feed : Seen → List Node → Seen
+feed s [] = s
+feed s (n ∷ ns) = feed (add s n) ns
 
 -- whether further nodes make no difference
 abbrev pub full : Seen → Bool
@@ -107,40 +107,40 @@ abbrev pub locations_in : Seen → List Location
 locations_in (locations ls) = ls
 locations_in _ = []
 
-abbrev pub removal_in : Seen → Option ((Location → Bool) × ℕ)
-removal_in (removal set k) = Some (set, k)
-removal_in _ = None
+abbrev pub location_set_in : Seen → Option ((Location → Bool) × ℕ)
+location_set_in (removal set k) = Some (set, k)
+location_set_in _ = None
 
 abbrev pub values_in : Seen → List Tree
 values_in (values ts) = ts
 values_in _ = []
 
 -- s was given these nodes and became s'; the walk may stop only where more would make no difference
-pub record Took (s : Seen) (ns : List Node) (s' : Seen) (goes_on : Bool) : Type 0 where
-  pub given : s' ≡ give s ns
+pub record Fed (s : Seen) (ns : List Node) (s' : Seen) (goes_on : Bool) : Type 0 where
+  pub given : s' ≡ feed s ns
   pub stopped : goes_on ≡ false → full s' ≡ true
 
 -- the sink was given these nodes, and the result says whether to go on
-abbrev pub Takes : {A E : Type 0} {R : Ghosts A} {D : debug.Ghosts A} → Sink A R D → Sink A R D → List Node → Result Bool E → Type 0
-Takes old new ns result = IfOk result (λ b. Took (seen old) ns (seen new) b)
+abbrev pub Feeds : {A E : Type 0} {R : Ghosts A} {D : debug.Ghosts A} → Sink A R D → Sink A R D → List Node → Result Bool E → Type 0
+Feeds old new ns result = IfOk result (λ b. Fed (seen old) ns (seen new) b)
 
 -- ---- a sink beside the way
 
 -- where it marks, the steps that are settled are the first of the location that it marked last
-abbrev pub IsTied : {A : Type 0} {R : Ghosts A} {D : debug.Ghosts A} → Sink A R D → Way → Type 0
-IsTied (sink.Removal r copy) way = LastBegins r.value (take way.settled (lent_location way.steps.items))
-IsTied _ way = Unit {0}
+abbrev pub IsPrefixInSync : {A : Type 0} {R : Ghosts A} {D : debug.Ghosts A} → Sink A R D → CurrentPath → Type 0
+IsPrefixInSync (sink.LocationSet r copy) current_path = LastBegins r.value (take current_path.shared_len (lent_location current_path.steps.items))
+IsPrefixInSync _ current_path = Unit {0}
 
 -- Where that is so, it was given these nodes, and it is so again.
-pub record TookAlong {A : Type 0} {R : Ghosts A} {D : debug.Ghosts A} (s : Sink A R D × Way) (ns : List Node) (s' : Sink A R D × Way) (goes_on : Bool) : Type 0 where
-  pub took : IsTied s.0 s.1 → Took (seen s.0) ns (seen s'.0) goes_on
-  pub tied : IsTied s.0 s.1 → IsTied s'.0 s'.1
+pub record FedInSync {A : Type 0} {R : Ghosts A} {D : debug.Ghosts A} (s : Sink A R D × CurrentPath) (ns : List Node) (s' : Sink A R D × CurrentPath) (goes_on : Bool) : Type 0 where
+  pub took : IsPrefixInSync s.0 s.1 → Fed (seen s.0) ns (seen s'.0) goes_on
+  pub tied : IsPrefixInSync s.0 s.1 → IsPrefixInSync s'.0 s'.1
 
 -- the same, and the result says whether to go on
-abbrev pub TakesAlong : {A E : Type 0} {R : Ghosts A} {D : debug.Ghosts A} → Sink A R D × Way → Sink A R D × Way → List Node → Result Bool E → Type 0
-TakesAlong old new ns result = IfOk result (λ b. TookAlong old ns new b)
+abbrev pub FeedsInSync : {A E : Type 0} {R : Ghosts A} {D : debug.Ghosts A} → Sink A R D × CurrentPath → Sink A R D × CurrentPath → List Node → Result Bool E → Type 0
+FeedsInSync old new ns result = IfOk result (λ b. FedInSync old ns new b)
 
 -- The removal is of these locations.
-pub record IsRemovalOf (r : Removal) (ls : List Location) : Type 0 where
-  pub set : removal_set r ≡ is_among ls
-  pub count : removal_count r ≡ distinct_count ls
+pub record IsLocationSetOf (r : LocationSet) (ls : List Location) : Type 0 where
+  pub set : location_set r ≡ is_among ls
+  pub count : location_count r ≡ distinct_count ls

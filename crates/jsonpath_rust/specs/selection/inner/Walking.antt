@@ -14,8 +14,8 @@ use Rattle.jsonpath_rust.specs.documents.inner.Whole.{tree_of}
 use Rattle.jsonpath_base.specs.declared.step.StepRef.{StepRef}
 use Rattle.jsonpath_base.specs.declared.documents.queryable.Queryable.{Ghosts}
 use Rattle.jsonpath_rust.specs.declared.documents.whole.WholeRef.{WholeRef}
-use Rattle.jsonpath_rust.specs.declared.selection.action.Action.{Action}
-use Rattle.jsonpath_rust.specs.declared.selection.action.Action.TheVariants.{All, If, Below}
+use Rattle.jsonpath_rust.specs.declared.selection.walk.Visit.{Visit}
+use Rattle.jsonpath_rust.specs.declared.selection.walk.Visit.TheVariants as visit
 
 -- the node of a value that these steps lead to
 abbrev pub node_of : {A : Type 0} {R : Ghosts A} {D : debug.Ghosts A} → List StepRef → WholeRef A R D → Node
@@ -26,18 +26,18 @@ abbrev pub LeadTo : {A : Type 0} {R : Ghosts A} {D : debug.Ghosts A} → List St
 LeadTo steps root x = at (lent_location steps) (tree_of root) ≡ Some (tree_of x)
 
 -- The segments applied to one node, and the rest to each node that comes, before the next one.
-abbrev pub through : Segments → Document → Node → List Node
-through no_segments d n = n ∷ []
-through (segment g gs) d n = flat_map (through gs d) (replaced g d n)
+abbrev pub selected_from : Segments → Document → Node → List Node
+selected_from no_segments d n = n ∷ []
+selected_from (segment g gs) d n = flat_map (selected_from gs d) (replaced g d n)
 
 -- the nodes that an action makes of one node
-abbrev pub acted : Constants → Action → Document → Node → List Node
-acted kept All d n = n ∷ []
-acted kept (If f) d n = filter (holds (filter_view kept f.now) d) (n ∷ [])
-acted kept (Below g) d n = flat_map (replaced (segment_view kept g.now) d) (subtree n)
+abbrev pub visited_nodes : Constants → Visit → Document → Node → List Node
+visited_nodes constants visit.Continue d n = n ∷ []
+visited_nodes constants (visit.Filter f) d n = filter (holds (filter_view constants f.now) d) (n ∷ [])
+visited_nodes constants (visit.Descend g) d n = flat_map (replaced (segment_view constants g.now) d) (subtree n)
 
 -- the patterns that stand in an action
-abbrev pub action_patterns : Constants → Action → List (Bool × Argument)
-action_patterns kept All = []
-action_patterns kept (If f) = filter_patterns (filter_view kept f.now)
-action_patterns kept (Below g) = segment_patterns (segment_view kept g.now)
+abbrev pub visit_patterns : Constants → Visit → List (Bool × Argument)
+visit_patterns constants visit.Continue = []
+visit_patterns constants (visit.Filter f) = filter_patterns (filter_view constants f.now)
+visit_patterns constants (visit.Descend g) = segment_patterns (segment_view constants g.now)

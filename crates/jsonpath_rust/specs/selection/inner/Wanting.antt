@@ -6,77 +6,77 @@ use Rattle.jsonpath_base.specs.documents.Document.{Document}
 use Rattle.jsonpath_base.specs.documents.Functions.{Evaluated, of_nodes, of_value, as_value, as_nodes, as_trees, as_truth, count_of, count_value}
 use Rattle.jsonpath_base.specs.documents.Meaning.{argued}
 use Rattle.jsonpath_base.specs.documents.Node.{Node}
-use Rattle.jsonpath_rust.specs.documents.inner.Operands.{operand_tree}
-use Rattle.jsonpath_rust.specs.selection.inner.PlanViews.{Constants, part_view}
+use Rattle.jsonpath_rust.specs.documents.inner.Operands.{filter_value_tree}
+use Rattle.jsonpath_rust.specs.selection.inner.PlanViews.{Constants, expr_view}
 use Rattle.jsonpath_rust.specs.selection.inner.Sinks.{Seen, counted, one}
 use Rattle.jsonpath_rust.specs.selection.inner.Sinks as sinks
 use Rattle.jsonpath_base.specs.declared.documents.queryable.Queryable.{Ghosts}
-use Rattle.jsonpath_rust.specs.declared.selection.cache.Given.{Given}
-use Rattle.jsonpath_rust.specs.declared.selection.cache.Given.TheVariants as given
-use Rattle.jsonpath_rust.specs.declared.selection.plan.Part.{Part}
-use Rattle.jsonpath_rust.specs.declared.selection.sink.Wanted.{Wanted}
-use Rattle.jsonpath_rust.specs.declared.selection.sink.Wanted.TheVariants as wanted
+use Rattle.jsonpath_rust.specs.declared.selection.constants.CachedResult.{CachedResult}
+use Rattle.jsonpath_rust.specs.declared.selection.constants.CachedResult.TheVariants as cached
+use Rattle.jsonpath_rust.specs.declared.selection.plan.Expr.{Expr}
+use Rattle.jsonpath_rust.specs.declared.selection.sink.Demand.{Demand}
+use Rattle.jsonpath_rust.specs.declared.selection.sink.Demand.TheVariants as demand
 
 -- what is wanted, as a value: whether there is a node, how many there are, or the value of the only one
-abbrev pub wanted_of : Wanted → Evaluated → Option Tree
-wanted_of wanted.Any e = Some (truth (as_truth e))
-wanted_of wanted.Count e = count_of (as_nodes e)
-wanted_of wanted.Sole e = as_value e
-wanted_of wanted.Values e = None
+abbrev pub demand_of : Demand → Evaluated → Option Tree
+demand_of demand.Exists e = Some (truth (as_truth e))
+demand_of demand.Count e = count_of (as_nodes e)
+demand_of demand.Single e = as_value e
+demand_of demand.Values e = None
 
 -- the same of any part of a filter: what is no query has its value, whatever is wanted
-abbrev pub told : Wanted → Evaluated → Option Tree
-told wanted.Sole e = as_value e
-told w (of_value o) = o
-told w (of_nodes ns) = wanted_of w (of_nodes ns)
+abbrev pub outcome : Demand → Evaluated → Option Tree
+demanded_value demand.Single e = as_value e
+demanded_value w (of_value o) = o
+demanded_value w (of_nodes ns) = demand_of w (of_nodes ns)
 
 -- what is given: a value, if there is one; or values; or nothing, for a pattern is too large
-pub data Gave : Type 0 where
-  value : Option Tree → Gave
-  values : List Tree → Gave
-  refused : Gave
+pub data ResultView : Type 0 where
+  value : Option Tree → ResultView
+  values : List Tree → ResultView
+  refused : ResultView
 
-abbrev pub gave : {A : Type 0} {R : Ghosts A} {D : debug.Ghosts A} → Given A R D → Gave
-gave (given.Value o) = value (operand_tree o)
-gave {R = R} (given.Values vs) = values (map (λ v. R.tree v.now) vs.list.items)
-gave given.Refused = refused
+abbrev pub result_view : {A : Type 0} {R : Ghosts A} {D : debug.Ghosts A} → CachedResult A R D → ResultView
+result_view (cached.Value o) = value (filter_value_tree o)
+result_view {R = R} (cached.Values vs) = values (map (λ v. R.tree v.now) vs.list.items)
+result_view cached.Refused = refused
 
 -- of a query, that or all values
-abbrev pub given_of : Wanted → Evaluated → Gave
-given_of wanted.Values e = values (as_trees e)
-given_of w e = value (wanted_of w e)
+abbrev pub result_for : Demand → Evaluated → ResultView
+result_for demand.Values e = values (as_trees e)
+result_for w e = value (demand_of w e)
 
 -- of so many nodes: how many they are, or whether there is one
-abbrev pub told_of : Wanted → ℕ → Tree
-told_of wanted.Any k = truth (nat_lt 0 k)
+abbrev pub told_of : Demand → ℕ → Tree
+told_of demand.Exists k = truth (nat_lt 0 k)
 told_of _ k = count_value k
 
 -- by a sink for what is wanted
-abbrev pub finished : Wanted → Seen → Gave
+abbrev pub finished : Demand → Seen → ResultView
 finished w (counted room most) = value (Some (told_of w (most - room)))
 finished w (one t) = value (Some t)
 finished w (sinks.values ts) = values ts
 finished w _ = value None
 
 -- the value, or the values, where that is given
-abbrev pub given_value : Option Gave → Option Tree
+abbrev pub given_value : Option ResultView → Option Tree
 given_value (Some (value t)) = t
 given_value _ = None
 
 -- these values, or this one, if there is one
-abbrev pub trees_in : Gave → List Tree
+abbrev pub trees_in : ResultView → List Tree
 trees_in (value o) = option_to_list o
 trees_in (values ts) = ts
 trees_in refused = []
 
 -- The part is a query where this is wanted, and no value; or the other way round.
-abbrev pub IsQuery : Constants → Part → Wanted → Type 0
-IsQuery kept p w = (d : Document) (n : Node) → argued (part_view kept p w) d n ≡ of_nodes (as_nodes (argued (part_view kept p w) d n))
+abbrev pub IsQuery : Constants → Expr → Demand → Type 0
+IsQuery constants p w = (d : Document) (n : Node) → argued (expr_view constants p w) d n ≡ of_nodes (as_nodes (argued (expr_view constants p w) d n))
 
-abbrev pub IsValue : Constants → Part → Wanted → Type 0
-IsValue kept p w = (d : Document) (n : Node) → argued (part_view kept p w) d n ≡ of_value (as_value (argued (part_view kept p w) d n))
+abbrev pub IsValue : Constants → Expr → Demand → Type 0
+IsValue constants p w = (d : Document) (n : Node) → argued (expr_view constants p w) d n ≡ of_value (as_value (argued (expr_view constants p w) d n))
 
 -- The part has one value at most, which is the same where values are wanted and where the only one is.
-pub record IsOne (kept : Constants) (p : Part) : Type 0 where
-  pub same : part_view kept p wanted.Values ≡ part_view kept p wanted.Sole
-  pub alone : (d : Document) (n : Node) → as_trees (argued (part_view kept p wanted.Sole) d n) ≡ option_to_list (as_value (argued (part_view kept p wanted.Sole) d n))
+pub record IsOne (constants : Constants) (p : Expr) : Type 0 where
+  pub same : expr_view constants p demand.Values ≡ expr_view constants p demand.Single
+  pub alone : (d : Document) (n : Node) → as_trees (argued (expr_view constants p demand.Single) d n) ≡ option_to_list (as_value (argued (expr_view constants p demand.Single) d n))

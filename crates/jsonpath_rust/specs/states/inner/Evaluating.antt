@@ -14,10 +14,10 @@ use Rattle.jsonpath_base.specs.documents.inner.Parts.{selectors_in}
 use Rattle.jsonpath_rust.specs.documents.inner.Whole.{document_at}
 use Rattle.jsonpath_base.specs.declared.documents.queryable.Queryable.{Ghosts}
 use Rattle.jsonpath_rust.specs.declared.states.evaluate.Evaluation.{Evaluation}
-use Rattle.jsonpath_rust.specs.declared.states.evaluate.segments.Part.{Part}
-use Rattle.jsonpath_rust.specs.declared.states.evaluate.segments.Part.TheVariants.{Name, Wildcard, Index, Slice, Parents, Kept, Joined}
-use Rattle.jsonpath_base.specs.declared.documents.halt.Halt.{Halt}
-use Rattle.jsonpath_base.specs.declared.documents.halt.Halt.TheVariants.{Memory}
+use Rattle.jsonpath_rust.specs.declared.states.evaluate.segments.NodeOperation.{Part}
+use Rattle.jsonpath_rust.specs.declared.states.evaluate.segments.NodeOperation.TheVariants.{Name, Wildcard, Index, Slice, Parents, Kept, Joined}
+use Rattle.jsonpath_base.specs.declared.documents.walk_error.WalkError.{WalkError}
+use Rattle.jsonpath_base.specs.declared.documents.walk_error.WalkError.TheVariants.{Memory}
 use Rattle.jsonpath_base.specs.declared.documents.state.data.Data.{Data}
 use Rattle.jsonpath_base.specs.declared.documents.state.pointer.Pointer.{Pointer}
 use Rattle.jsonpath_rust.specs.declared.states.held.WholeData.{WholeData}
@@ -65,9 +65,9 @@ part_patterns _ = []
 -- ---- why an answer is refused
 
 -- memory ran out, or one of these patterns was asked at a value in the document or in a node of the state
-abbrev pub HaltsBelow : List (Bool × Argument) → Document → Content → Halt → Type 0
+abbrev pub HaltsBelow : List (Bool × Argument) → Document → Content → WalkError → Type 0
 HaltsBelow patterns d c halt = (halt ≡ Memory → ⊥) → AsksPatternAt patterns d (IsBelow d c)
 
 -- the same, or it was asked at the state itself
-abbrev pub HaltsAt : List (Bool × Argument) → Document → Content → Halt → Type 0
+abbrev pub HaltsAt : List (Bool × Argument) → Document → Content → WalkError → Type 0
 HaltsAt patterns d c halt = (halt ≡ Memory → ⊥) → AsksPatternAt patterns d (IsAsked d c)

@@ -11,14 +11,6 @@ use crate::documents::whole::{Whole, WholeRef};
 use std::alloc::Global;
 
 impl<T: Queryable> Whole<T> {
-    /// The value, borrowed.
-    #[inline(always)]
-    pub(crate) fn lent(&self) -> WholeRef<'_, T>
-        ensures { tree_of result ≡ own_tree self.now }
-    {
-        WholeRef { value: &self.value }
-    }
-
     /// A value of the same tree, which is whole too. It refuses by `OutOfMemory` alone.
     pub fn try_clone(&self, alloc: Global) -> Queried<Self>
         ensures value { IfOk result (λ v. T.tree v.value ≡ T.tree self.now.value) }

@@ -1,17 +1,16 @@
 //! How a plan is made: by one pass over the query.
 ghost use Rattle.std.specs.Prelude.{◌≡◌, IfOk, map};
 ghost use Rattle.jsonpath_base.specs.Prelude.Documents.{list_all, MemoryAlone};
-ghost use Rattle.jsonpath_rust.specs.Prelude.Selection.{argument_is_rooted, call_is_rooted, every, filter_is_rooted, Made, Sole, plan_view, Values, Wanted};
+ghost use Rattle.jsonpath_rust.specs.Prelude.Selection.{argument_is_rooted, call_is_rooted, every, filter_is_rooted, Made, Single, plan_view, Values, Demand};
 ghost use Rattle.jsonpath_parser.specs.tree.Syntax as syntax;
 ghost use Rattle.jsonpath_parser.specs.tree.View as tree;
 ghost use Rattle.jsonpath_rust.specs.selection.inner.PlanViews as plan;
 
-use super::numbering::{Met, When};
-use super::patterns::Numbers;
+use super::numbering::{PatternTable, Scope, When};
 use super::steps::{looked_up, segments_of_steps, steps_again};
-use super::{Call, Constant, Filter, Part, Plan, Segment, Selector};
-use crate::selection::sink::Wanted;
-use jsonpath_base::Extent;
+use super::{Call, Constant, Expr, Filter, Plan, Segment, Selector};
+use crate::selection::sink::Demand;
+use jsonpath_base::MatchKind;
 use jsonpath_parser::errors::Parsed;
 use jsonpath_parser::model as tree;
 use jsonpath_parser::model::{JpQuery, Operator, SingularQuery};
@@ -25,15 +24,15 @@ pub fn plan_of(alloc: Global, query: &JpQuery) -> Parsed<Plan>
     let mut maker = Maker {
         alloc,
         constants: Vec::new(alloc),
-        met: Met::NOTHING,
-        patterns: Numbers::new(alloc),
+        scope: Scope::NOTHING,
+        patterns: PatternTable::new(alloc),
     };
     let segments = maker.segments(&query.segments)?;
     let pattern_count = maker.patterns.count();
     Ok(Plan {
         segments,
         constants: maker.constants,
-        nesting: maker.met.nesting,
+        nesting: maker.scope.nesting,
         pattern_count,
     })
 }
@@ -45,15 +44,15 @@ pub struct Maker<'q> {
     /// The constants that have a number.
     pub constants: Vec<Constant>,
     /// What was met since the part at hand began.
-    pub met: Met,
+    pub scope: Scope,
     /// The patterns that have a number.
-    pub patterns: Numbers<'q>,
+    pub patterns: PatternTable<'q>,
 }
 
 impl<'q> Maker<'q> {
     #[cycle(make)]
     fn segments(&mut self, segments: &'q [tree::Segment]) -> Parsed<Vec<Segment>>
-        ensures made { IfOk result (λ v. Made (list_all every) self.old self.new (λ kept. map (plan.segment_view kept) v.items)
+        ensures made { IfOk result (λ v. Made (list_all every) self.old self.new (λ constants. map (plan.segment_view constants) v.items)
             (map tree.segment_view segments.now)) }
         ensures memory { MemoryAlone result }
     {
@@ -66,7 +65,7 @@ impl<'q> Maker<'q> {
 
     #[cycle(make)]
     fn segment(&mut self, segment: &'q tree::Segment) -> Parsed<Segment>
-        ensures made { IfOk result (λ g. Made every self.old self.new (λ kept. plan.segment_view kept g)
+        ensures made { IfOk result (λ g. Made every self.old self.new (λ constants. plan.segment_view constants g)
             (tree.segment_view segment.now)) }
         ensures memory { MemoryAlone result }
     {
@@ -82,7 +81,7 @@ impl<'q> Maker<'q> {
 
     #[cycle(make)]
     fn selectors(&mut self, selectors: &'q [tree::Selector]) -> Parsed<Vec<Selector>>
-        ensures made { IfOk result (λ v. Made (list_all every) self.old self.new (λ kept. map (plan.selector_view kept) v.items)
+        ensures made { IfOk result (λ v. Made (list_all every) self.old self.new (λ constants. map (plan.selector_view constants) v.items)
             (map tree.selector_view selectors.now)) }
         ensures memory { MemoryAlone result }
     {
@@ -95,7 +94,7 @@ impl<'q> Maker<'q> {
 
     #[cycle(make)]
     fn selector(&mut self, selector: &'q tree::Selector) -> Parsed<Selector>
-        ensures made { IfOk result (λ s. Made every self.old self.new (λ kept. plan.selector_view kept s)
+        ensures made { IfOk result (λ s. Made every self.old self.new (λ constants. plan.selector_view constants s)
             (tree.selector_view selector.now)) }
         ensures memory { MemoryAlone result }
     {
@@ -110,7 +109,7 @@ impl<'q> Maker<'q> {
 
     #[cycle(make)]
     fn filters(&mut self, filters: &'q [tree::Filter]) -> Parsed<Vec<Filter>>
-        ensures made { IfOk result (λ v. Made (list_all filter_is_rooted) self.old self.new (λ kept. map (plan.filter_view kept) v.items)
+        ensures made { IfOk result (λ v. Made (list_all filter_is_rooted) self.old self.new (λ constants. map (plan.filter_view constants) v.items)
             (map tree.filter_view filters.now)) }
         ensures memory { MemoryAlone result }
     {
@@ -123,7 +122,7 @@ impl<'q> Maker<'q> {
 
     #[cycle(make)]
     fn filter(&mut self, filter: &'q tree::Filter) -> Parsed<Filter>
-        ensures made { IfOk result (λ f. Made filter_is_rooted self.old self.new (λ kept. plan.filter_view kept f)
+        ensures made { IfOk result (λ f. Made filter_is_rooted self.old self.new (λ constants. plan.filter_view constants f)
             (tree.filter_view filter.now)) }
         ensures memory { MemoryAlone result }
     {
@@ -136,7 +135,7 @@ impl<'q> Maker<'q> {
 
     #[cycle(make)]
     fn atom(&mut self, atom: &'q tree::FilterAtom) -> Parsed<Filter>
-        ensures made { IfOk result (λ f. Made filter_is_rooted self.old self.new (λ kept. plan.filter_view kept f)
+        ensures made { IfOk result (λ f. Made filter_is_rooted self.old self.new (λ constants. plan.filter_view constants f)
             (tree.atom_view atom.now)) }
         ensures memory { MemoryAlone result }
     {
@@ -156,17 +155,17 @@ impl<'q> Maker<'q> {
     /// A test, turned round where `not`.
     #[cycle(make)]
     fn test(&mut self, test: &'q tree::Test, not: bool) -> Parsed<Filter>
-        ensures made { IfOk result (λ f. Made filter_is_rooted self.old self.new (λ kept. plan.filter_view kept f)
+        ensures made { IfOk result (λ f. Made filter_is_rooted self.old self.new (λ constants. plan.filter_view constants f)
             (syntax.Filter.test not (tree.test_view test.now))) }
         ensures memory { MemoryAlone result }
     {
-        let part = self.test_part(test, Wanted::Any)?;
+        let part = self.test_part(test, Demand::Exists)?;
         Ok(Filter::Test { part, not })
     }
 
     #[cycle(make)]
     fn comparison(&mut self, comparison: &'q tree::Comparison) -> Parsed<Filter>
-        ensures made { IfOk result (λ f. Made filter_is_rooted self.old self.new (λ kept. plan.filter_view kept f)
+        ensures made { IfOk result (λ f. Made filter_is_rooted self.old self.new (λ constants. plan.filter_view constants f)
             (tree.comparison_view comparison.now)) }
         ensures memory { MemoryAlone result }
     {
@@ -184,60 +183,60 @@ impl<'q> Maker<'q> {
     }
 
     #[cycle(make)]
-    fn side(&mut self, side: &'q tree::Comparable) -> Parsed<Part>
-        ensures made { IfOk result (λ p. Made argument_is_rooted self.old self.new (λ kept. plan.part_view kept p Sole)
+    fn side(&mut self, side: &'q tree::Comparable) -> Parsed<Expr>
+        ensures made { IfOk result (λ p. Made argument_is_rooted self.old self.new (λ constants. plan.expr_view constants p Single)
             (tree.comparable_view side.now)) }
         ensures memory { MemoryAlone result }
     {
         match side {
-            tree::Comparable::Literal(literal) => Ok(Part::Literal(literal.try_clone(self.alloc)?)),
+            tree::Comparable::Literal(literal) => Ok(Expr::Literal(literal.try_clone(self.alloc)?)),
             tree::Comparable::SingularQuery(query) => self.singular(query),
             tree::Comparable::Function(function) => self.called(function),
         }
     }
 
     /// A query of at most one node, as a side.
-    fn singular(&mut self, query: &'q SingularQuery) -> Parsed<Part>
-        ensures made { IfOk result (λ p. Made argument_is_rooted self.old self.new (λ kept. plan.part_view kept p Sole)
+    fn singular(&mut self, query: &'q SingularQuery) -> Parsed<Expr>
+        ensures made { IfOk result (λ p. Made argument_is_rooted self.old self.new (λ constants. plan.expr_view constants p Single)
             (syntax.test_argument (tree.singular_view query.now))) }
         ensures memory { MemoryAlone result }
     {
         match query {
             SingularQuery::Current(steps) => {
                 self.meet_current();
-                Ok(Part::Lookup(steps_again(self.alloc, steps)?))
+                Ok(Expr::Lookup(steps_again(self.alloc, steps)?))
             }
             SingularQuery::Root(steps) => {
                 let segments = segments_of_steps(self.alloc, steps)?;
                 let number = self.number(Constant::Nodes {
                     segments,
-                    wanted: Wanted::Sole,
-                    when: When::Asked,
+                    demand: Demand::Single,
+                    when: When::OnDemand,
                 })?;
-                Ok(Part::Constant(number))
+                Ok(Expr::Constant(number))
             }
         }
     }
 
     /// A query from the current node.
     #[cycle(make)]
-    fn relative(&mut self, segments: &'q [tree::Segment], wanted: Wanted) -> Parsed<Part>
-        ensures made { IfOk result (λ p. Made argument_is_rooted self.old self.new (λ kept. plan.part_view kept p wanted)
+    fn relative(&mut self, segments: &'q [tree::Segment], demand: Demand) -> Parsed<Expr>
+        ensures made { IfOk result (λ p. Made argument_is_rooted self.old self.new (λ constants. plan.expr_view constants p demand)
             (syntax.test_argument (syntax.relative (tree.segments_of (map tree.segment_view segments.now))))) }
         ensures memory { MemoryAlone result }
     {
         self.meet_current();
-        if let Some(part) = looked_up(self.alloc, segments, wanted)? {
+        if let Some(part) = looked_up(self.alloc, segments, demand)? {
             return Ok(part);
         }
         self.meet_walk();
-        Ok(Part::Walk(self.segments(segments)?))
+        Ok(Expr::Walk(self.segments(segments)?))
     }
 
     /// A query from the root.
     #[cycle(make)]
-    fn absolute(&mut self, query: &'q JpQuery, wanted: Wanted) -> Parsed<Part>
-        ensures made { IfOk result (λ p. Made argument_is_rooted self.old self.new (λ kept. plan.part_view kept p wanted)
+    fn absolute(&mut self, query: &'q JpQuery, demand: Demand) -> Parsed<Expr>
+        ensures made { IfOk result (λ p. Made argument_is_rooted self.old self.new (λ constants. plan.expr_view constants p demand)
             (syntax.test_argument (syntax.absolute (tree.query_view query.now)))) }
         ensures memory { MemoryAlone result }
     {
@@ -246,31 +245,31 @@ impl<'q> Maker<'q> {
         let when = self.end_query(around, &query.segments);
         let number = self.number(Constant::Nodes {
             segments,
-            wanted,
+            demand,
             when,
         })?;
-        Ok(Part::Constant(number))
+        Ok(Expr::Constant(number))
     }
 
     /// A call: the constant of it, where it has no `@`.
     #[cycle(make)]
-    fn called(&mut self, call: &'q tree::TestFunction) -> Parsed<Part>
-        ensures made { (wanted : Wanted) → IfOk result (λ p. Made argument_is_rooted self.old self.new
-            (λ kept. plan.part_view kept p wanted) (syntax.test_argument (syntax.call (tree.call_view call.now)))) }
+    fn called(&mut self, call: &'q tree::TestFunction) -> Parsed<Expr>
+        ensures made { (demand : Demand) → IfOk result (λ p. Made argument_is_rooted self.old self.new
+            (λ constants. plan.expr_view constants p demand) (syntax.test_argument (syntax.call (tree.call_view call.now)))) }
         ensures memory { MemoryAlone result }
     {
         let around = self.begin();
         let made = self.call(call)?;
         if self.end(around) {
             let number = self.number(Constant::Answer(made))?;
-            return Ok(Part::Constant(number));
+            return Ok(Expr::Constant(number));
         }
-        Ok(Part::Call(Box::new(self.alloc, made)?))
+        Ok(Expr::Call(Box::new(self.alloc, made)?))
     }
 
     #[cycle(make)]
     fn call(&mut self, call: &'q tree::TestFunction) -> Parsed<Call>
-        ensures made { IfOk result (λ c. Made call_is_rooted self.old self.new (λ kept. plan.call_view kept c) (tree.call_view call.now)) }
+        ensures made { IfOk result (λ c. Made call_is_rooted self.old self.new (λ constants. plan.call_view constants c) (tree.call_view call.now)) }
         ensures memory { MemoryAlone result }
     {
         match call {
@@ -278,17 +277,20 @@ impl<'q> Maker<'q> {
                 let name = String::from_str(self.alloc, name)?;
                 Ok(Call::Custom(name, self.arguments(args)?))
             }
-            tree::TestFunction::Length(arg) => Ok(Call::Length(self.argument(arg, Wanted::Sole)?)),
-            tree::TestFunction::Value(arg) => Ok(Call::Value(self.argument(arg, Wanted::Sole)?)),
-            tree::TestFunction::Count(arg) => Ok(Call::Count(self.argument(arg, Wanted::Count)?)),
+            tree::TestFunction::Length(arg) => Ok(Call::Length(self.argument(
+                arg,
+                Demand::Single,
+            )?)),
+            tree::TestFunction::Value(arg) => Ok(Call::Value(self.argument(arg, Demand::Single)?)),
+            tree::TestFunction::Count(arg) => Ok(Call::Count(self.argument(arg, Demand::Count)?)),
             tree::TestFunction::Search(text, pattern) => {
-                let text = self.argument(text, Wanted::Sole)?;
-                let pattern = self.pattern(pattern, Extent::Substring)?;
+                let text = self.argument(text, Demand::Single)?;
+                let pattern = self.pattern(pattern, MatchKind::Partial)?;
                 Ok(Call::Search(text, pattern))
             }
             tree::TestFunction::Match(text, pattern) => {
-                let text = self.argument(text, Wanted::Sole)?;
-                let pattern = self.pattern(pattern, Extent::Entire)?;
+                let text = self.argument(text, Demand::Single)?;
+                let pattern = self.pattern(pattern, MatchKind::Full)?;
                 Ok(Call::Match(text, pattern))
             }
         }
@@ -296,58 +298,58 @@ impl<'q> Maker<'q> {
 
     /// The arguments of a custom function.
     #[cycle(make)]
-    fn arguments(&mut self, arguments: &'q [tree::FnArg]) -> Parsed<Vec<Part>>
+    fn arguments(&mut self, arguments: &'q [tree::FnArg]) -> Parsed<Vec<Expr>>
         ensures made { IfOk result (λ v. Made (list_all argument_is_rooted) self.old self.new
-            (λ kept. map (λ a. plan.part_view kept a Values) v.items)
+            (λ constants. map (λ a. plan.expr_view constants a Values) v.items)
             (map tree.argument_view arguments.now)) }
         ensures memory { MemoryAlone result }
     {
         let mut parts = Vec::with_capacity(self.alloc, arguments.len())?;
         'arguments: for argument in arguments {
-            parts.push(self.argument(argument, Wanted::Values)?)?;
+            parts.push(self.argument(argument, Demand::Values)?)?;
         }
         Ok(parts)
     }
 
     /// The second argument of `match` or `search`.
     #[cycle(make)]
-    fn pattern(&mut self, argument: &'q tree::FnArg, extent: Extent) -> Parsed<Part>
-        ensures made { IfOk result (λ p. Made argument_is_rooted self.old self.new (λ kept. plan.part_view kept p Sole)
+    fn pattern(&mut self, argument: &'q tree::FnArg, extent: MatchKind) -> Parsed<Expr>
+        ensures made { IfOk result (λ p. Made argument_is_rooted self.old self.new (λ constants. plan.expr_view constants p Single)
             (tree.argument_view argument.now)) }
         ensures memory { MemoryAlone result }
     {
         match argument {
             tree::FnArg::Literal(literal) => self.literal_pattern(literal, extent),
-            _ => self.argument(argument, Wanted::Sole),
+            _ => self.argument(argument, Demand::Single),
         }
     }
 
     #[cycle(make)]
-    fn argument(&mut self, argument: &'q tree::FnArg, wanted: Wanted) -> Parsed<Part>
-        ensures made { IfOk result (λ p. Made argument_is_rooted self.old self.new (λ kept. plan.part_view kept p wanted)
+    fn argument(&mut self, argument: &'q tree::FnArg, demand: Demand) -> Parsed<Expr>
+        ensures made { IfOk result (λ p. Made argument_is_rooted self.old self.new (λ constants. plan.expr_view constants p demand)
             (tree.argument_view argument.now)) }
         ensures memory { MemoryAlone result }
     {
         match argument {
-            tree::FnArg::Literal(literal) => Ok(Part::Literal(literal.try_clone(self.alloc)?)),
+            tree::FnArg::Literal(literal) => Ok(Expr::Literal(literal.try_clone(self.alloc)?)),
             tree::FnArg::Filter(filter) => {
                 let inner = self.filter(filter)?;
-                Ok(Part::Filter(Box::new(self.alloc, inner)?))
+                Ok(Expr::Filter(Box::new(self.alloc, inner)?))
             }
-            tree::FnArg::Test(test) => self.test_part(test, wanted),
+            tree::FnArg::Test(test) => self.test_part(test, demand),
         }
     }
 
     /// A query or a call.
     #[cycle(make)]
-    fn test_part(&mut self, test: &'q tree::Test, wanted: Wanted) -> Parsed<Part>
-        ensures made { IfOk result (λ p. Made argument_is_rooted self.old self.new (λ kept. plan.part_view kept p wanted)
+    fn test_part(&mut self, test: &'q tree::Test, demand: Demand) -> Parsed<Expr>
+        ensures made { IfOk result (λ p. Made argument_is_rooted self.old self.new (λ constants. plan.expr_view constants p demand)
             (syntax.test_argument (tree.test_view test.now))) }
         ensures memory { MemoryAlone result }
     {
         match test {
-            tree::Test::RelQuery(segments) => self.relative(segments, wanted),
-            tree::Test::AbsQuery(query) => self.absolute(query, wanted),
+            tree::Test::RelQuery(segments) => self.relative(segments, demand),
+            tree::Test::AbsQuery(query) => self.absolute(query, demand),
             tree::Test::Function(function) => self.called(function),
         }
     }

@@ -4,28 +4,28 @@ ghost use Rattle.jsonpath_base.specs.Prelude.Documents.{MemoryAlone, one, relati
 ghost use Rattle.jsonpath_rust.specs.Prelude.Selection.{Constants};
 ghost use Rattle.jsonpath_rust.specs.selection.inner.PlanViews as plan;
 
-use super::{Part, Segment, Selector};
-use crate::selection::sink::Wanted;
+use super::{Expr, Segment, Selector};
+use crate::selection::sink::Demand;
 use jsonpath_parser::errors::Parsed;
-use jsonpath_parser::model as tree;
 use jsonpath_parser::model::SingularQuerySegment;
+use jsonpath_parser::{are_steps, model as tree};
 use std::alloc::Global;
 
 /// The part that these segments from the current node are where they need no walk: names and indexes, or these and then
 /// `[*]` where its children are counted.
-pub fn looked_up(alloc: Global, segments: &[tree::Segment], wanted: Wanted) -> Parsed<Option<Part>>
-    ensures same { (kept : Constants) → IfOk result (λ o. IfSome o (λ p. plan.part_view kept p wanted
+pub fn looked_up(alloc: Global, segments: &[tree::Segment], demand: Demand) -> Parsed<Option<Expr>>
+    ensures same { (constants : Constants) → IfOk result (λ o. IfSome o (λ p. plan.expr_view constants p demand
         ≡ test_argument (relative (segments_of (map segment_view segments.now))))) }
     ensures memory { MemoryAlone result }
 {
     if let Some(steps) = steps_of(alloc, segments)? {
-        return Ok(Some(Part::Lookup(steps)));
+        return Ok(Some(Expr::Lookup(steps)));
     }
-    if !wanted.is_counted() {
+    if !demand.is_counted() {
         return Ok(None);
     }
     match steps_to_children(alloc, segments)? {
-        Some(steps) => Ok(Some(Part::Children(steps))),
+        Some(steps) => Ok(Some(Expr::Children(steps))),
         None => Ok(None),
     }
 }
@@ -76,18 +76,6 @@ fn is_wildcard(segment: &tree::Segment) -> bool
     }
 }
 
-/// Whether each segment is one name or one index.
-fn are_steps(segments: &[tree::Segment]) -> bool {
-    for segment in segments {
-        match segment {
-            tree::Segment::Selector(tree::Selector::Name(_)) => {}
-            tree::Segment::Selector(tree::Selector::Index(_)) => {}
-            _ => return false,
-        }
-    }
-    true
-}
-
 /// The step of a segment, where it is one name or one index.
 fn step_of(alloc: Global, segment: &tree::Segment) -> Parsed<Option<SingularQuerySegment>>
     ensures same { IfOk result (λ o. IfSome o (λ s. step_view s ≡ segment_view segment.now)) }
@@ -122,7 +110,7 @@ pub fn steps_again(
 
 /// The segments of these steps.
 pub fn segments_of_steps(alloc: Global, steps: &[SingularQuerySegment]) -> Parsed<Vec<Segment>>
-    ensures same { (kept : Constants) → IfOk result (λ v. map (plan.segment_view kept) v.items ≡ map step_view steps.now) }
+    ensures same { (constants : Constants) → IfOk result (λ v. map (plan.segment_view constants) v.items ≡ map step_view steps.now) }
     ensures memory { MemoryAlone result }
 {
     let mut segments = Vec::with_capacity(alloc, steps.len())?;
@@ -135,7 +123,7 @@ pub fn segments_of_steps(alloc: Global, steps: &[SingularQuerySegment]) -> Parse
 /// The segment of a step.
 #[tactic(auto, using(crate::proofs::laws::selection::PlanEquations::plan_equations))]
 fn segment_of(alloc: Global, step: &SingularQuerySegment) -> Parsed<Segment>
-    ensures same { (kept : Constants) → IfOk result (λ g. plan.segment_view kept g ≡ step_view step.now) }
+    ensures same { (constants : Constants) → IfOk result (λ g. plan.segment_view constants g ≡ step_view step.now) }
     ensures memory { MemoryAlone result }
 {
     match step {

@@ -6,16 +6,16 @@ ghost use Rattle.jsonpath_rust.specs.Prelude.States.{content_at, content_trees, 
 ghost use Rattle.jsonpath_base.specs.documents.Functions as functions;
 
 use crate::documents::args::Args;
-use crate::documents::halt::Walked;
-use crate::documents::operand::length_of;
+use crate::documents::filter_value::length_of;
 use crate::documents::queryable::Queryable;
+use crate::documents::walk_error::WalkResult;
 use crate::documents::whole::{Whole, WholeRef};
 use crate::states::evaluate::Returned;
 use crate::states::evaluate::single::{count_data, plain_value, truth_data};
 use crate::states::held::{WholeData, WholePointer};
 use crate::states::state::Data;
-use jsonpath_base::Extent;
-use jsonpath_base::engine::Asked;
+use jsonpath_base::MatchKind;
+use jsonpath_base::engine::PatternKey;
 use std::alloc::Global;
 
 /// What `length` returns.
@@ -84,7 +84,7 @@ pub fn found_data<'a, T: Queryable>(
     alloc: Global,
     text: &WholeData<'a, T>,
     pattern: &WholeData<'a, T>,
-    extent: Extent,
+    extent: MatchKind,
 ) -> Returned<'a, T>
     ensures value { IfOk result (λ d. content_at d
         ≡ value (truth (functions.is_matched (is_entire extent) (plain (content_at text.now)) (plain
@@ -99,8 +99,8 @@ fn is_matched<T: Queryable>(
     alloc: Global,
     text: Option<WholeRef<'_, T>>,
     pattern: Option<WholeRef<'_, T>>,
-    extent: Extent,
-) -> Walked<bool>
+    extent: MatchKind,
+) -> WalkResult<bool>
     ensures value { IfOk result (λ b. b
         ≡ functions.is_matched (is_entire extent) (option_map tree_of text.entry)
         (option_map tree_of pattern.entry)) }
@@ -109,7 +109,7 @@ fn is_matched<T: Queryable>(
     match (text, pattern) {
         (Some(text), Some(pattern)) => match (text.as_str(), pattern.as_str()) {
             (Some(text), Some(pattern)) => {
-                let asked = Asked { pattern, extent };
+                let asked = PatternKey { pattern, extent };
                 Ok(asked.is_found(alloc, text)?)
             }
             _ => Ok(false),
@@ -135,7 +135,7 @@ pub fn custom_data<'a, T: Queryable>(
 pub fn push_values<'a, T: Queryable>(
     values: &mut Args<'a, T>,
     answer: WholeData<'a, T>,
-) -> Walked<()>
+) -> WalkResult<()>
     ensures value { OnOk result (arg_trees values.new ≡ arg_trees values.old ++ content_trees (content_at answer.entry)) }
     ensures memory { IfErr result (λ h. h ≡ Memory) }
 {

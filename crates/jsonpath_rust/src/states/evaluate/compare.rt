@@ -5,7 +5,7 @@ ghost use Rattle.jsonpath_rust.specs.Prelude.Documents.{tree_of};
 ghost use Rattle.jsonpath_rust.specs.Prelude.States.{content_at, contents_compare, contents_equal, is_content_below, lists_same, lists_targets, plain, PointersAreWhole, targets_of, values_same};
 
 use crate::documents::comparison::is_below;
-use crate::documents::operand::Side;
+use crate::documents::filter_value::FilterValueRef;
 use crate::documents::queryable::Queryable;
 use crate::documents::whole::WholeRef;
 use crate::states::evaluate::single::plain_value;
@@ -90,7 +90,7 @@ fn are_same_values<'a, T: Queryable>(items: &[T], nodes: &[Pointer<'a, T>]) -> b
 fn is_less<'a, T: Queryable>(left: &WholeData<'a, T>, right: &WholeData<'a, T>) -> bool
     ensures { result ≡ is_content_below (content_at left.now) (content_at right.now) }
 {
-    let left = Side::lent(plain_value(left));
-    let right = Side::lent(plain_value(right));
+    let left = FilterValueRef::from_ref(plain_value(left));
+    let right = FilterValueRef::from_ref(plain_value(right));
     is_below(&left, &right)
 }

@@ -5,8 +5,8 @@ ghost use Rattle.jsonpath_rust.specs.Prelude.Documents.{arg_trees};
 ghost use Rattle.jsonpath_rust.specs.Prelude.States.{argument_content, arguments_trees, basic_content, call_content, content_at, document, each_holds_at, HaltsAt, holds_at, some_holds_at, test_content, value};
 
 use crate::documents::args::Args;
-use crate::documents::halt::Walked;
 use crate::documents::queryable::Queryable;
+use crate::documents::walk_error::WalkResult;
 use crate::states::evaluate::calls::{
     custom_data, found_data, length_data, node_count, only_value, push_values,
 };
@@ -15,7 +15,7 @@ use crate::states::evaluate::single::{literal_data, truth_data};
 use crate::states::evaluate::test::{is_true, test_answer};
 use crate::states::evaluate::{Evaluation, Returned};
 use crate::states::held::WholeData;
-use jsonpath_base::Extent;
+use jsonpath_base::MatchKind;
 use jsonpath_parser::model::{
     Comparable, Comparison, Filter, FilterAtom, FnArg, Test, TestFunction,
 };
@@ -23,7 +23,7 @@ use jsonpath_parser::model::{
 impl<'a, T: Queryable> Evaluation<'a, T> {
     /// The truth of a logical expression at a state.
     #[cycle(evaluate)]
-    pub fn holds(&self, filter: &Filter, given: &WholeData<'a, T>) -> Walked<bool>
+    pub fn holds(&self, filter: &Filter, given: &WholeData<'a, T>) -> WalkResult<bool>
         ensures value { IfOk result (λ b. b ≡ holds_at (filter_view filter.now) (document self.now) (content_at given.now)) }
         ensures refused { IfErr result (HaltsAt (filter_patterns (filter_view filter.now)) (document self.now) (content_at given.now)) }
     {
@@ -36,7 +36,7 @@ impl<'a, T: Queryable> Evaluation<'a, T> {
 
     /// Whether some part holds.
     #[cycle(evaluate)]
-    fn some_holds(&self, parts: &[Filter], given: &WholeData<'a, T>) -> Walked<bool>
+    fn some_holds(&self, parts: &[Filter], given: &WholeData<'a, T>) -> WalkResult<bool>
         ensures value { IfOk result (λ b. b ≡ some_holds_at (filters_in parts.now) (document self.now) (content_at given.now)) }
         ensures refused { IfErr result (HaltsAt (filters_patterns (filters_in parts.now)) (document self.now) (content_at given.now)) }
     {
@@ -50,7 +50,7 @@ impl<'a, T: Queryable> Evaluation<'a, T> {
 
     /// Whether every part holds.
     #[cycle(evaluate)]
-    fn each_holds(&self, parts: &[Filter], given: &WholeData<'a, T>) -> Walked<bool>
+    fn each_holds(&self, parts: &[Filter], given: &WholeData<'a, T>) -> WalkResult<bool>
         ensures value { IfOk result (λ b. b ≡ each_holds_at (filters_in parts.now) (document self.now) (content_at given.now)) }
         ensures refused { IfErr result (HaltsAt (filters_patterns (filters_in parts.now)) (document self.now) (content_at given.now)) }
     {
@@ -90,7 +90,7 @@ impl<'a, T: Queryable> Evaluation<'a, T> {
         &self,
         comparison: &Comparison,
         given: &WholeData<'a, T>,
-    ) -> Walked<bool>
+    ) -> WalkResult<bool>
         ensures value { IfOk result (λ b. b ≡ holds_at (comparison_view comparison.now) (document self.now) (content_at given.now)) }
         ensures refused { IfErr result (HaltsAt
             (filter_patterns (comparison_view comparison.now)) (document self.now)
@@ -175,19 +175,19 @@ impl<'a, T: Queryable> Evaluation<'a, T> {
             TestFunction::Search(text, pattern) => {
                 let text = self.argument_data(text, given)?;
                 let pattern = self.argument_data(pattern, given)?;
-                found_data(self.alloc, &text, &pattern, Extent::Substring)
+                found_data(self.alloc, &text, &pattern, MatchKind::Partial)
             }
             TestFunction::Match(text, pattern) => {
                 let text = self.argument_data(text, given)?;
                 let pattern = self.argument_data(pattern, given)?;
-                found_data(self.alloc, &text, &pattern, Extent::Entire)
+                found_data(self.alloc, &text, &pattern, MatchKind::Full)
             }
         }
     }
 
     /// What the arguments of a custom function stand for.
     #[cycle(evaluate)]
-    fn arguments(&self, args: &[FnArg], given: &WholeData<'a, T>) -> Walked<Args<'a, T>>
+    fn arguments(&self, args: &[FnArg], given: &WholeData<'a, T>) -> WalkResult<Args<'a, T>>
         ensures value { IfOk result (λ v. arg_trees v
             ≡ arguments_trees (arguments_in args.now) (document self.now) (content_at given.now)) }
         ensures refused { IfErr result (HaltsAt (arguments_patterns (arguments_in args.now)) (document self.now) (content_at given.now)) }

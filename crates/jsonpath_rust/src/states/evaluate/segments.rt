@@ -12,7 +12,7 @@ use jsonpath_parser::model::{Filter, Segment, Selector};
 
 /// What is done at each node.
 #[derive(Clone, Copy)]
-pub enum Part<'s> {
+pub enum NodeOperation<'s> {
     Name(&'s String),
     Wildcard,
     Index(i64),
@@ -55,7 +55,7 @@ impl<'a, T: Queryable> Evaluation<'a, T> {
             Segment::Selector(one) => self.selector_data(one, given),
             Segment::Selectors(several) => self.several_data(several, given),
             Segment::Descendant(inner) => {
-                let below = self.each_target(Part::Parents, given)?;
+                let below = self.each_target(NodeOperation::Parents, given)?;
                 self.segment_data(inner, below)
             }
         }
@@ -72,7 +72,7 @@ impl<'a, T: Queryable> Evaluation<'a, T> {
     {
         match selectors.split_first() {
             None => Ok(WholeData::nothing()),
-            Some((_first, _rest)) => self.each_target(Part::Joined(selectors), given),
+            Some((_first, _rest)) => self.each_target(NodeOperation::Joined(selectors), given),
         }
     }
 
@@ -86,19 +86,19 @@ impl<'a, T: Queryable> Evaluation<'a, T> {
             (document self.now) (content_at given.entry)) }
     {
         match selector {
-            Selector::Name(name) => self.each_target(Part::Name(name), given),
-            Selector::Wildcard => self.each_target(Part::Wildcard, given),
-            Selector::Index(index) => self.each_target(Part::Index(*index), given),
+            Selector::Name(name) => self.each_target(NodeOperation::Name(name), given),
+            Selector::Wildcard => self.each_target(NodeOperation::Wildcard, given),
+            Selector::Index(index) => self.each_target(NodeOperation::Index(*index), given),
             Selector::Slice(start, end, step) => {
-                self.each_target(Part::Slice(*start, *end, *step), given)
+                self.each_target(NodeOperation::Slice(*start, *end, *step), given)
             }
-            Selector::Filter(filter) => self.each_target(Part::Kept(filter), given),
+            Selector::Filter(filter) => self.each_target(NodeOperation::Kept(filter), given),
         }
     }
 
     /// The part at each node, as `flat_map` joins them.
     #[cycle(evaluate)]
-    pub fn each_target(&self, part: Part<'_>, given: WholeData<'a, T>) -> Returned<'a, T>
+    pub fn each_target(&self, part: NodeOperation<'_>, given: WholeData<'a, T>) -> Returned<'a, T>
         ensures value { IfOk result (λ d. content_at d ≡ mapped (part_content part.entry (document self.now)) (content_at given.entry)) }
         ensures refused { IfErr result (HaltsBelow (part_patterns part.entry) (document self.now) (content_at given.entry)) }
     {
@@ -120,24 +120,34 @@ impl<'a, T: Queryable> Evaluation<'a, T> {
 
     /// The part at a node.
     #[cycle(evaluate)]
-    fn at_target(&self, part: Part<'_>, from: WholePointerRef<'_, 'a, T>) -> Returned<'a, T>
+    fn at_target(
+        &self,
+        part: NodeOperation<'_>,
+        from: WholePointerRef<'_, 'a, T>,
+    ) -> Returned<'a, T>
         ensures value { IfOk result (λ d. content_at d ≡ part_content part.entry (document self.now) (target_at from.entry)) }
         ensures refused { IfErr result (HaltsBelow (part_patterns part.entry) (document self.now) (ref (target_at from.entry))) }
     {
         match part {
-            Part::Name(name) => Ok(from.named(self.alloc, name)?),
-            Part::Wildcard => Ok(from.wildcard(self.alloc)?),
-            Part::Index(index) => Ok(from.indexed(self.alloc, index)?),
-            Part::Slice(start, end, step) => Ok(from.sliced(self.alloc, start, end, step)?),
-            Part::Parents => Ok(from.parents(self.alloc)?),
-            Part::Kept(filter) => self.kept(filter, from),
-            Part::Joined(selectors) => self.joined(selectors, from),
+            NodeOperation::Name(name) => Ok(from.named(self.alloc, name)?),
+            NodeOperation::Wildcard => Ok(from.wildcard(self.alloc)?),
+            NodeOperation::Index(index) => Ok(from.indexed(self.alloc, index)?),
+            NodeOperation::Slice(start, end, step) => Ok(from.sliced(
+                self.alloc, start, end, step,
+            )?),
+            NodeOperation::Parents => Ok(from.parents(self.alloc)?),
+            NodeOperation::Kept(filter) => self.matching_children(filter, from),
+            NodeOperation::Joined(selectors) => self.joined(selectors, from),
         }
     }
 
     /// The children at which the filter holds.
     #[cycle(evaluate)]
-    fn kept(&self, filter: &Filter, from: WholePointerRef<'_, 'a, T>) -> Returned<'a, T>
+    fn matching_children(
+        &self,
+        filter: &Filter,
+        from: WholePointerRef<'_, 'a, T>,
+    ) -> Returned<'a, T>
         ensures value { IfOk result (λ d. content_at d
             ≡ kept_from (holds_at (filter_view filter.now) (document self.now))
             (target_at from.entry)) }

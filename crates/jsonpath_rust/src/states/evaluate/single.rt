@@ -4,7 +4,7 @@ ghost use Rattle.jsonpath_base.specs.Prelude.Documents.{count_value, literal_tre
 ghost use Rattle.jsonpath_rust.specs.Prelude.Documents.{Memory, tree_of};
 ghost use Rattle.jsonpath_rust.specs.Prelude.States.{content_at, plain, value};
 
-use crate::documents::operand::{count_scalar, made, scalar_of};
+use crate::documents::filter_value::{count_scalar, made, scalar_of};
 use crate::documents::queryable::Queryable;
 use crate::documents::whole::WholeRef;
 use crate::states::evaluate::Returned;
@@ -44,14 +44,14 @@ pub fn literal_data<'a, T: Queryable>(alloc: Global, literal: &Literal) -> Retur
 pub fn plain_value<'d, 'a, T: Queryable>(given: &'d WholeData<'a, T>) -> Option<WholeRef<'d, T>>
     ensures { option_map tree_of result ≡ plain (content_at given.now) }
 {
-    match lent_value(given) {
+    match cached_ref(given) {
         Some(value) => Some(WholeRef { value }),
         None => None,
     }
 }
 
 /// The same, as a plain borrow.
-fn lent_value<'d, 'a, T: Queryable>(given: &'d WholeData<'a, T>) -> Option<&'d T>
+fn cached_ref<'d, 'a, T: Queryable>(given: &'d WholeData<'a, T>) -> Option<&'d T>
     ensures value { option_map (λ v. T.tree v.now) result ≡ plain (content_at given.now) }
     ensures whole { IfSome result (λ v. IsTrue (T.is_whole v.now)) }
 {

@@ -6,7 +6,7 @@ ghost use Rattle.jsonpath_rust.specs.Prelude.Documents.{Memory};
 ghost use Rattle.jsonpath_rust.specs.Prelude.States.{content_at, document, segment_content, segments_content, test_content};
 
 use crate::documents::queryable::Queryable;
-use crate::states::evaluate::segments::Part;
+use crate::states::evaluate::segments::NodeOperation;
 use crate::states::evaluate::{Evaluation, Returned};
 use crate::states::held::WholeData;
 use jsonpath_parser::model::{SingularQuery, SingularQuerySegment};
@@ -56,8 +56,11 @@ impl<'a, T: Queryable> Evaluation<'a, T> {
         ensures memory { IfErr result (λ h. h ≡ Memory) }
     {
         match step {
-            SingularQuerySegment::Name(name) => self.each_target(Part::Name(name), given),
-            SingularQuerySegment::Index(index) => self.each_target(Part::Index(*index), given),
+            SingularQuerySegment::Name(name) => self.each_target(NodeOperation::Name(name), given),
+            SingularQuerySegment::Index(index) => self.each_target(
+                NodeOperation::Index(*index),
+                given,
+            ),
         }
     }
 }

@@ -37,8 +37,8 @@ use Rattle.jsonpath_base.specs.contracts.documents.lending.seek as g₀
 use Rattle.jsonpath_base.proofs.documents.lending.seek.Met.{met as met₀}
 use Rattle.jsonpath_base.specs.contracts.documents.lending.lend_sought as g₁
 use Rattle.jsonpath_base.proofs.documents.lending.lend_sought.Met.{met as met₁}
-use Rattle.jsonpath_base.specs.contracts.documents.lending.answered as g₂
-use Rattle.jsonpath_base.proofs.documents.lending.answered.Met.{met as met₂}
+use Rattle.jsonpath_base.specs.contracts.documents.lending.answer as g₂
+use Rattle.jsonpath_base.proofs.documents.lending.answer.Met.{met as met₂}
 
 abbrev stayed : Stays f.ended.signature.params f.ended.kept
 stayed = (stay_dropped (plain (λ _. A)) yes, (stay_dropped (mut_ref_to (0 ∷ []) tt (plain (λ _. R))) no, (stay_dropped (StrRefOf (1 ∷ []) tt) yes, tt)))

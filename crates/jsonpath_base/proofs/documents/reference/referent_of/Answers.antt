@@ -7,7 +7,7 @@ use Rattle.jsonpath_base.proofs.documents.reference.referent_of.Goals as goal
 pub returns-in-Ok-clause-means : goal.returns-in-Ok-clause-means
 returns-in-Ok-clause-means c =
     let q = c.in-Ok.query in
-    means_referent c.args.path.now (value_document c.args.value.now) (query_view q) _ c.follow-referent.result (query_view-segments q ∙ ap segments_in (sym c.deref.ensures.value)) c.in-Ok.ensures.derived c.in-Ok.ensures.only c.follow-referent.ensures.value
+    means_referent c.args.path.now (value_document c.args.value.now) (query_view q) _ c.follow-referent.result (query_view-segments q ∙ ap segments_in (sym c.deref.ensures.value)) c.in-Ok.ensures.derived c.in-Ok.ensures.complete c.follow-referent.ensures.value
 
 pub returns-in-Ok-clause-there : goal.returns-in-Ok-clause-there
 returns-in-Ok-clause-there c = stands_there _ (value_tree c.args.value.now) c.follow-referent.result c.follow-referent.ensures.value

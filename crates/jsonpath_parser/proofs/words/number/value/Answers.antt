@@ -6,14 +6,14 @@ use Rattle.jsonpath_parser.proofs.words.number.value.Goals as goal
 
 pub returns-in_err-with_digits : goal.returns-in_err-with_digits
 returns-in_err-with_digits c =
-    let whole = c.args.whole.now in
+    let whole = c.args.integer.now in
     let fraction = c.args.fraction.now in
     let none = unheld_after (digits_value 10 whole) fraction c.requires.fraction_run c.in_err-with_digits.ensures.none in
     c.from_residual.ensures ∙ sym (value_unheld c.args.minus (digits_value 10 (whole ++ fraction)) (length fraction) (exponent_view c.args.exponent) (subst IsUnheld (sym (digits_value_after-append 0 whole fraction)) none))
 
 pub returns-in_err-mantissa : goal.returns-in_err-mantissa
 returns-in_err-mantissa c =
-    let whole = c.args.whole.now in
+    let whole = c.args.integer.now in
     let fraction = c.args.fraction.now in
     let all : digits_value_after 10 (number_of c.in_ok-with_digits.field-0) fraction ≡ digits_value 10 (whole ++ fraction) =
     ap (λ n. digits_value_after 10 n fraction) c.in_ok-with_digits.ensures.some ∙ sym (digits_value_after-append 0 whole fraction) in
@@ -22,7 +22,7 @@ returns-in_err-mantissa c =
 
 pub returns-in_err-size : goal.returns-in_err-size
 returns-in_err-size c =
-    let whole = c.args.whole.now in
+    let whole = c.args.integer.now in
     let fraction = c.args.fraction.now in
     let all : number_of c.in_ok-mantissa.mantissa ≡ digits_value 10 (whole ++ fraction) =
     c.in_ok-mantissa.ensures.some ∙ ap (λ n. digits_value_after 10 n fraction) c.in_ok-with_digits.ensures.some ∙ sym (digits_value_after-append 0 whole fraction) in
@@ -32,7 +32,7 @@ returns-in_err-size c =
 
 pub returns : goal.returns
 returns c =
-    let whole = c.args.whole.now in
+    let whole = c.args.integer.now in
     let fraction = c.args.fraction.now in
     let all : number_of c.in_ok-mantissa.mantissa ≡ digits_value 10 (whole ++ fraction) =
     c.in_ok-mantissa.ensures.some ∙ ap (λ n. digits_value_after 10 n fraction) c.in_ok-with_digits.ensures.some ∙ sym (digits_value_after-append 0 whole fraction) in

@@ -10,6 +10,6 @@ returns-clause-same c =
 
 pub invariant_of-result : goal.invariant_of-result
 invariant_of-result c = record {
-  settled = plan_settled c.in_ok-segments.ensures.made (search rules);
+  shared_len = plan_settled c.in_ok-segments.ensures.made (search rules);
   rooted = plan_rooted c.in_ok-segments.ensures.made (search rules);
 }

@@ -6,8 +6,8 @@ use Rattle.jsonpath_rust.proofs.selection.prepared.Prepared.read_within.Goals as
 pub returns-clause-query : goal.returns-clause-query
 returns-clause-query c = read_derives prepared_view _ _ (query_view c.in_ok-query.query) c.new.result c.in_ok-query.ensures.derived c.new.ensures.query
 
-pub returns-clause-only : goal.returns-clause-only
-returns-clause-only c t derived = read_only prepared_view (query_view c.in_ok-query.query) t c.new.result (c.in_ok-query.ensures.only t derived) c.new.ensures.query c.new.ensures.memory
+pub returns-clause-complete : goal.returns-clause-complete
+returns-clause-complete c t derived = read_only prepared_view (query_view c.in_ok-query.query) t c.new.result (c.in_ok-query.ensures.complete t derived) c.new.ensures.query c.new.ensures.memory
 
 pub returns-clause-normal : goal.returns-clause-normal
 returns-clause-normal c l is small deep = read_only prepared_view (query_view c.in_ok-query.query) (steps_query l) c.new.result (c.in_ok-query.ensures.normal l is small deep) c.new.ensures.query c.new.ensures.memory

@@ -10,6 +10,6 @@ returns g c =
     let tree = g.T.Queryable.tree in
     let q = runner_view c.args.self.now in
     let doc = document_at c.args.value in
-    let nodes = c.into_nodes.ensures ∙ given_few _ _ 1 (nodelist q doc) c.first.ensures c.in_ok-sink.ensures.gave in
-    let found = first_answered tree q doc c.told-only.result _ (g.met.T.Queryable.distinct c.args.value.value.now c.args.value.whole) nodes c.told-only.ensures.only in
-    record { told = record { first = rw c.one.ensures found.0; none = rw c.one.ensures found.1; whole = search rules }; refused = tt; same = search rules }
+    let nodes = c.into_nodes.ensures ∙ given_few _ _ 1 (nodelist q doc) c.first.ensures c.in_ok-sink.ensures.outcome in
+    let found = first_answered tree q doc c.into_only-only.result _ (g.met.T.Queryable.distinct c.args.value.value.now c.args.value.whole) nodes c.into_only-only.ensures.complete in
+    record { outcome = record { first = rw c.one.ensures found.0; none = rw c.one.ensures found.1; whole = search rules }; refused = tt; same = search rules }

@@ -10,5 +10,5 @@ returns g c =
     let tree = g.T.Queryable.tree in
     let q = runner_view c.args.self.now in
     let doc = document_at c.args.value in
-    let locations = c.into_locations.ensures ∙ given_locations (λ l. location_view l.items) c.new.result.items _ (nodelist q doc) c.new.ensures.items c.in_ok-sink.ensures.gave in
-    record { told = locations; refused = tt; same = search rules }
+    let locations = c.into_locations.ensures ∙ given_locations (λ l. location_view l.items) c.new.result.items _ (nodelist q doc) c.new.ensures.items c.in_ok-sink.ensures.outcome in
+    record { outcome = locations; refused = tt; same = search rules }

@@ -10,5 +10,5 @@ returns g c =
     let tree = g.T.Queryable.tree in
     let q = runner_view c.args.self.now in
     let doc = document_at c.args.value in
-    let nodes = nodes_answered q doc _ (g.met.T.Queryable.distinct c.args.value.value.now c.args.value.whole) (c.into_nodes.ensures ∙ given_nodes (λ r. (string_bytes r.path, tree r.val.now)) c.new.result.list.items _ (nodelist q doc) c.new.ensures c.in_ok-sink.ensures.gave) in
-    record { told = record { nodes = nodes; whole = search rules }; refused = tt; same = search rules }
+    let nodes = nodes_answered q doc _ (g.met.T.Queryable.distinct c.args.value.value.now c.args.value.whole) (c.into_nodes.ensures ∙ given_nodes (λ r. (string_bytes r.path, tree r.val.now)) c.new.result.list.items _ (nodelist q doc) c.new.ensures c.in_ok-sink.ensures.outcome) in
+    record { outcome = record { nodes = nodes; whole = search rules }; refused = tt; same = search rules }

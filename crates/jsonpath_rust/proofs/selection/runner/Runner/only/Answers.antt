@@ -10,6 +10,6 @@ returns g c =
     let tree = g.T.Queryable.tree in
     let q = runner_view c.args.self.now in
     let doc = document_at c.args.value in
-    let nodes = c.into_nodes.ensures ∙ given_few _ _ 2 (nodelist q doc) c.first.ensures c.in_ok-sink.ensures.gave in
-    let only = only_answered tree q doc c.told.result _ (g.met.T.Queryable.distinct c.args.value.value.now c.args.value.whole) nodes c.told.ensures.only in
-    record { told = record { only = only; whole = search rules }; refused = tt; same = search rules }
+    let nodes = c.into_nodes.ensures ∙ given_few _ _ 2 (nodelist q doc) c.first.ensures c.in_ok-sink.ensures.outcome in
+    let only = only_answered tree q doc c.into_only.result _ (g.met.T.Queryable.distinct c.args.value.value.now c.args.value.whole) nodes c.into_only.ensures.complete in
+    record { outcome = record { only = only; whole = search rules }; refused = tt; same = search rules }

@@ -10,5 +10,5 @@ returns g c =
     let tree = g.T.Queryable.tree in
     let q = runner_view c.args.self.now in
     let doc = document_at c.args.value in
-    let paths = paths_answered q doc _ (c.into_paths.ensures ∙ given_paths (λ p. string_bytes p) c.new.result.items _ (nodelist q doc) c.new.ensures.items c.in_ok-sink.ensures.gave) in
-    record { told = paths; refused = tt; same = search rules }
+    let paths = paths_answered q doc _ (c.into_paths.ensures ∙ given_paths (λ p. string_bytes p) c.new.result.items _ (nodelist q doc) c.new.ensures.items c.in_ok-sink.ensures.outcome) in
+    record { outcome = paths; refused = tt; same = search rules }

@@ -7,8 +7,8 @@ use Rattle.jsonpath_rust.proofs.selection.runner.Runner.replace.Goals as goal
 pub returns-in-Ok-clause-replaced : goal.returns-in-Ok-clause-replaced
 returns-in-Ok-clause-replaced g c =
     let replaced = c.in-Ok.ensures.replaced ∙ ap (λ s. overwritten s (value_tree c.args.new.now) (value_tree c.args.value.now)) c.in_ok-marked.ensures.set in
-    record { told = record { replaced = replaced; counted = c.count.ensures ∙ c.in_ok-marked.ensures.count }; refused = tt; same = search rules }
+    record { outcome = record { replaced = replaced; counted = c.count.ensures ∙ c.in_ok-marked.ensures.count }; refused = tt; same = search rules }
 
 pub returns-clause-replaced : goal.returns-clause-replaced
 returns-clause-replaced g c =
-    record { told = tt; refused = memory_stops g.L.Limits.counts g.L.Limits.stops (runner_view c.args.self.now) (value_document c.args.value.now) c.stop.result c.stop.ensures; same = search rules }
+    record { outcome = tt; refused = memory_stops g.L.Limit.counts g.L.Limit.stops (runner_view c.args.self.now) (value_document c.args.value.now) c.stop.result c.stop.ensures; same = search rules }

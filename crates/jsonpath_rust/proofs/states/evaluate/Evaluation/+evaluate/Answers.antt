@@ -59,8 +59,8 @@ each_target-returns-after-loop-from-clause-value g t c =
     ∙ ap refs (joined_end (λ xs. flat_map f (map (target_of tree) xs)) refl c.deref-from-items.result.now c.loop-from.from-index (targets_at c.loop-from.all) _ c.loop-from-test.false c.loop-from.invariant ∙ ap (λ xs. flat_map f (map (target_of tree) xs)) c.deref-from-items.ensures.value)
     ∙ ap (λ z. mapped (part_content c.args.part d) (content_of tree z)) (sym c.in-Refs.is)
 
-pub kept-loop-child-preserved : goal.kept-loop-child-preserved
-kept-loop-child-preserved g t c =
+pub matching_children-loop-child-preserved : goal.matching_children-loop-child-preserved
+matching_children-loop-child-preserved g t c =
     let tree = g.T.Queryable.tree in
     let d = document c.args.self.now in
     let h : Target → Bool = λ p. holds_at (filter_view c.args.filter.now) d (inside p.tree) in
@@ -70,8 +70,8 @@ kept-loop-child-preserved g t c =
     let pushed = c.in_ok-keep_if-in-Some.ensures.value ∙ ap (λ b. targets_at c.loop-child.found ++ cond b (target_of tree x ∷ []) []) holds in
     joined_next (λ xs. filter h (map (target_of tree) xs)) (λ y. cond (h (target_of tree y)) (target_of tree y ∷ []) []) (λ y ys. filter_more h (target_of tree y) (map (target_of tree) ys)) items c.loop-child.child-index x _ _ _ c.loop-child-test.true c.child-item.is pushed c.loop-child.invariant
 
-pub kept-returns-after-loop-child-clause-value : goal.kept-returns-after-loop-child-clause-value
-kept-returns-after-loop-child-clause-value g t c =
+pub matching_children-returns-after-loop-child-clause-value : goal.matching_children-returns-after-loop-child-clause-value
+matching_children-returns-after-loop-child-clause-value g t c =
     let tree = g.T.Queryable.tree in
     let d = document c.args.self.now in
     let h : Target → Bool = λ p. holds_at (filter_view c.args.filter.now) d (inside p.tree) in
@@ -256,8 +256,8 @@ each_target-returns-in_err-found-in-Refs-clause-refused g t c =
     let same = ap (λ z. targets (content_of tree z)) c.in-Refs.is ∙ ap (map (target_of tree)) (sym c.deref-from-items.ensures.value) in
     halts_so _ _ c.from_residual.ensures.1 c.in_err-found-in-Refs.ensures.refused (λ h. asks_target (target_of tree) d k items c.loop-from.from-index c.from-item.result distinct same c.loop-from-test.true c.from-item.is h)
 
-pub kept-returns-in_err-is_kept-in-Some-clause-refused : goal.kept-returns-in_err-is_kept-in-Some-clause-refused
-kept-returns-in_err-is_kept-in-Some-clause-refused g t c =
+pub matching_children-returns-in_err-is_kept-in-Some-clause-refused : goal.matching_children-returns-in_err-is_kept-in-Some-clause-refused
+matching_children-returns-in_err-is_kept-in-Some-clause-refused g t c =
     let tree = g.T.Queryable.tree in
     let d = document c.args.self.now in
     let from = target_at c.args.from in

@@ -24,8 +24,8 @@ decreases-each_target g l = 4 * part_effort l.part + 2
 abbrev pub decreases-at_target : goal.decreases-at_target
 decreases-at_target g l = 4 * part_effort l.part + 1
 
-abbrev pub decreases-kept : goal.decreases-kept
-decreases-kept g l = 4 * filter_effort 0 (filter_view l.filter.now) + 3
+abbrev pub decreases-matching_children : goal.decreases-matching_children
+decreases-matching_children g l = 4 * filter_effort 0 (filter_view l.filter.now) + 3
 
 abbrev pub decreases-joined : goal.decreases-joined
 decreases-joined g l = 4 * selectors_effort 0 (selectors_in l.selectors.now) + 1
@@ -77,8 +77,8 @@ invariant-each_target-loop-from g l =
     let f : Target → List Target = λ p. targets (part_content l.part d p) in
     targets_at l.all ++ flat_map f (map (target_of tree) (drop l.from-index l.from-items)) ≡ flat_map f (map (target_of tree) l.from-items)
 
-abbrev pub invariant-kept-loop-child : goal.invariant-kept-loop-child
-invariant-kept-loop-child g l =
+abbrev pub invariant-matching_children-loop-child : goal.invariant-matching_children-loop-child
+invariant-matching_children-loop-child g l =
     let tree = g.T.Queryable.tree in
     let d = document l.self in
     let h : Target → Bool = λ p. holds_at (filter_view l.filter) d (inside p.tree) in

@@ -1,4 +1,4 @@
 use Rattle.jsonpath_rust.proofs.states.process.FilterAtomQuery.process.Goals as goal
 
 pub returns-clause-content : goal.returns-clause-content
-returns-clause-content g c = rw (c.begun-given.ensures.document, c.begun-given.ensures.content) at (c.answered.ensures.content _ c.atom_data.ensures.value)
+returns-clause-content g c = rw (c.begun-given.ensures.document, c.begun-given.ensures.content) at (c.state_of.ensures.content _ c.atom_data.ensures.value)
