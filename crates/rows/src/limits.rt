@@ -1,5 +1,5 @@
 //! Conditions on a document, and how much work is just enough for a query or a condition.
-use jsonpath_rust::{Condition, Prepared, Runner, LimitError, Units, Whole, WholeRef};
+use jsonpath_rust::{Condition, Prepared, Runner, Stop, Units, Whole, WholeRef};
 use rows_common::answers::{are_same, pair, unchanged};
 use rows_common::arguments::{given, given_if, size, spelled, text};
 use rows_common::{Given, Refusal};
@@ -38,14 +38,14 @@ fn least<F: Fn(usize) -> Given<bool>>(is_enough: F) -> Given<usize>
 }
 
 /// Whether something was returned, and the work not spent before.
-fn done<T: Drop>(answer: Result<T, LimitError>) -> Given<bool> {
+fn done<T: Drop>(answer: Result<T, Stop>) -> Given<bool> {
     match answer {
         Ok(value) => {
             drop(value);
             Ok(true)
         }
-        Err(LimitError::Exhausted) => Ok(false),
-        Err(LimitError::Query(error)) => Err(error.into()),
+        Err(Stop::Spent) => Ok(false),
+        Err(Stop::Refused(error)) => Err(error.into()),
     }
 }
 

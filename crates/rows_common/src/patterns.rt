@@ -2,7 +2,7 @@
 use crate::answers::listed;
 use crate::arguments::{given_if, list, text, truth};
 use crate::refusal::Given;
-use jsonpath_base::{MatchKind, Pattern, found};
+use jsonpath_base::{Extent, Pattern, found};
 use serde_json::Value;
 use std::alloc::Global;
 
@@ -23,11 +23,11 @@ pub fn asked(alloc: Global, subject: &Value, pattern: &Value, whole: &Value) -> 
 }
 
 /// What of a text has to match: where `whole`, the entire text.
-fn extent_of(whole: bool) -> MatchKind {
+fn extent_of(whole: bool) -> Extent {
     if whole {
-        MatchKind::Full
+        Extent::Entire
     } else {
-        MatchKind::Partial
+        Extent::Substring
     }
 }
 

@@ -6,7 +6,7 @@ use crate::rows::asking::query_of;
 use crate::rows::whole_copy;
 use crate::script::{Edit, apply_edits};
 use jsonpath_rust::Whole;
-use jsonpath_rust::query::{Prepared, Runner, LimitError, at};
+use jsonpath_rust::query::{Prepared, Runner, Stop, at};
 use rows_common::answers::{optional, pair, with_left};
 use rows_common::arguments::{each, exactly, given, list, size, steps, text, text_copy};
 use rows_common::{Cause, Given, Refusal};
@@ -118,11 +118,11 @@ fn run_by(
 }
 
 /// How many, null where the units are not enough.
-fn told(count: Result<usize, LimitError>) -> Given<Value> {
+fn told(count: Result<usize, Stop>) -> Given<Value> {
     match count {
         Ok(count) => Ok(Value::from(count)),
-        Err(LimitError::Exhausted) => Ok(Value::Null),
-        Err(LimitError::Query(error)) => Err(error.into()),
+        Err(Stop::Spent) => Ok(Value::Null),
+        Err(Stop::Refused(error)) => Err(error.into()),
     }
 }
 

@@ -30,8 +30,8 @@ returns-clause-different g c =
     let right = values_lent (λ v. tree v.now) other (selected (query_view p) other) c.in_ok-others.others.items c.deref-2.result.now others c.deref-2.ensures.value in
     (different_as (values_of q doc) (values_of p other) (map (λ v. tree v.now) c.deref.result.now) (map (λ v. tree v.now) c.deref-2.result.now) c.first_difference.result left right c.first_difference.ensures.different)
 
-pub returns-clause-complete : goal.returns-clause-complete
-returns-clause-complete g c alike =
+pub returns-clause-only : goal.returns-clause-only
+returns-clause-only g c alike =
     let tree = g.T.Queryable.tree in
     let doc = document_of tree g.T.Queryable.custom c.args.document.value.now in let other = document_of tree g.T.Queryable.custom c.args.other.value.now in
     no_difference (values_of c.args.query.now doc) (values_of c.args.other_query.now other) c.first_difference.result (returns-clause-different g c) alike
