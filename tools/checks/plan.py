@@ -4,9 +4,8 @@ Where a library of the kit is not found, that is printed, and its size is not co
 'at least'. Where that is above the limit, this fails. Where it is not, this says that the answer is not known, and does not fail.
 
 Two processors for jsonpath_rust want 1.6 times its plan, of 0.85 of the free memory (21.2 GB on a machine of 24 GiB), and nothing else ready or
-at work: so jsonpath_base has to leave room for its own tests beside its proof, and rows_common waits for jsonpath_rust (crates.txt). The kit
-counts a GB, 1 MB a line of `.rt`, 0.2 MB a line of `.antt`, 0.08 MB a line of `.rt` of the crates below, and five times the size of the kit's
-libraries that are named (`rattle-kit-13f`).
+at work: so jsonpath_base has to leave room for its own tests beside its proof. The kit counts a GB, 1 MB a line of `.rt`, 0.2 MB a line of
+`.antt`, 0.08 MB a line of `.rt` of the crates below, and five times the size of the kit's libraries that are named (`rattle-kit-13f`).
 """
 
 import os

@@ -1,6 +1,6 @@
-"""Asks `jpath` the rows of crates/jpath/runs and of crates/jpath/queries, or those of other files.
+"""Asks `jpath` the cases of crates/jpath/runs and of crates/jpath/queries, or those of other files.
 
-A row is a line of JSON. In `runs` it has `words`, those behind the program's name; `input`; `status`, how the run exits; `shown`, what it writes
+A case is a line of JSON. In `runs` it has `words`, those behind the program's name; `input`; `status`, how the run exits; `shown`, what it writes
 where that is 0, and else its line on standard error. The other stream stays empty. Where it is left open which of two ends comes, `or` has the
 other, `{"status": .., "shown": ..}`. A word or an input that is no text is `{"bytes": [..]}`, an input that cannot be read `{"path": ..}`, what
 lies there. Where nothing can be written, `output` is the path of what standard output leads to. `stack` is the stack that the run has, in KB; the
@@ -8,12 +8,12 @@ unproved program, whose levels take more, has none of its own.
 
 In `queries` it has `query`, `document`, or `json`, the same as a text, and `nodes`, each a list of a path and a value, or `paths` alone; or
 `query` and `refused`, the kind of the error; or `delete`, a query, with `document`, `count` and `left`, or with `refused`. `depth` is that of
-`--depth`. Such a row is the run of `nodes`, `paths` or `delete` that writes exactly this. Each row may have a `name`. A text may be a list of
-pieces, each a text, or a text and how often it is repeated. Each path of a row that has been asked is asked as a query, which has to write this
-path alone, with its value where the row has that; this is a run of its own.
+`--depth`. Such a case is the run of `nodes`, `paths` or `delete` that writes exactly this. Each case may have a `name`. A text may be a list of
+pieces, each a text, or a text and how often it is repeated. Each path of a case that has been asked is asked as a query, which has to write this
+path alone, with its value where the case has that; this is a run of its own.
 
 A file that is a compliance suite for JSONPath is asked test by test. A test is skipped for numbers that are not whole, or for the byte 0 in its
-query. Each row and each test that does not hold is told. The last line is 'N of M runs hold', of a suite 'N of M tests hold, K skipped', and the
+query. Each case and each test that does not hold is told. The last line is 'N of M runs hold', of a suite 'N of M tests hold, K skipped', and the
 status is 0 only where all do.
 """
 
@@ -25,12 +25,12 @@ import shlex
 import subprocess
 
 from lib import programs
-from lib.cases import compact, rows_of, text
+from lib.cases import cases_of, compact, text
 from lib.repository import ROOT, read
 
 RUN = {"words", "input", "status", "shown"}
 OPTIONAL = {"or", "output", "stack", "name"}
-# The members of a row of queries, beside `name` and `depth`.
+# The members of a case of queries, beside `name` and `depth`.
 QUERIES = (
     {"query", "document", "nodes"},
     {"query", "document", "paths"},
@@ -58,7 +58,7 @@ def add_arguments(parser):
 
 
 def run(options):
-    """Asks the rows of the files, and returns the status."""
+    """Asks the cases of the files, and returns the status."""
     program = programs.chosen(options, "jpath")
     held, suites_hold = [], True
     for path in options.files or [f"{ROOT}/crates/jpath/{name}" for name in ("runs", "queries")]:
@@ -73,59 +73,59 @@ def run(options):
 
 
 def bytes_of(member):
-    """Returns a word or an input of a row as bytes."""
+    """Returns a word or an input of a case as bytes."""
     return bytes(member["bytes"]) if isinstance(member, dict) else text(member).encode()
 
 
-def run_of(row):
-    """Returns the row as one of `runs`; a KeyError where its members are those of no row."""
-    if "words" in row:
-        if not RUN <= set(row) <= RUN | OPTIONAL:
+def run_of(case):
+    """Returns the case as one of `runs`; a KeyError where its members are those of no case."""
+    if "words" in case:
+        if not RUN <= set(case) <= RUN | OPTIONAL:
             raise KeyError
-        return row
-    if set(row) - {"name", "depth"} not in QUERIES:
+        return case
+    if set(case) - {"name", "depth"} not in QUERIES:
         raise KeyError
-    command = "delete" if "delete" in row else "paths" if "paths" in row else "nodes"
-    depth = ["--depth", str(row["depth"])] if "depth" in row else []
-    words = [command, *depth, row["delete"] if "delete" in row else row["query"]]
-    if "refused" in row:
-        name, _, most = row["refused"].partition(" ")
+    command = "delete" if "delete" in case else "paths" if "paths" in case else "nodes"
+    depth = ["--depth", str(case["depth"])] if "depth" in case else []
+    words = [command, *depth, case["delete"] if "delete" in case else case["query"]]
+    if "refused" in case:
+        name, _, most = case["refused"].partition(" ")
         status, shown = 1, LINES[name].format(most)
-    elif "nodes" in row:
-        status, shown = 0, "".join(f"{text(path)}\t{compact(value)}\n" for path, value in row["nodes"])
-    elif "paths" in row:
-        status, shown = 0, "".join(f"{text(path)}\n" for path in row["paths"])
+    elif "nodes" in case:
+        status, shown = 0, "".join(f"{text(path)}\t{compact(value)}\n" for path, value in case["nodes"])
+    elif "paths" in case:
+        status, shown = 0, "".join(f"{text(path)}\n" for path in case["paths"])
     else:
-        status, shown = 0, f"{row['count']}\n{compact(row['left'])}\n"
-    return {"words": words, "input": row["json"] if "json" in row else compact(row.get("document")), "status": status, "shown": shown}
+        status, shown = 0, f"{case['count']}\n{compact(case['left'])}\n"
+    return {"words": words, "input": case["json"] if "json" in case else compact(case.get("document")), "status": status, "shown": shown}
 
 
 def wanted(end):
-    """Returns an end of a row: the status, what is written, and the line."""
+    """Returns an end of a case: the status, what is written, and the line."""
     shown = text(end["shown"]).encode()
     return (0, shown, b"") if end["status"] == 0 else (end["status"], b"", shown + b"\n")
 
 
-def limited(row, has_stack):
-    """Returns what sets the stack of the run, where the row tells it."""
-    if "stack" not in row or not has_stack:
+def limited(case, has_stack):
+    """Returns what sets the stack of the run, where the case tells it."""
+    if "stack" not in case or not has_stack:
         return None
-    limit = row["stack"] * 1024
+    limit = case["stack"] * 1024
     return lambda: resource.setrlimit(resource.RLIMIT_STACK, (limit, limit))
 
 
-def ended(program, row, has_stack=False):
+def ended(program, case, has_stack=False):
     """Returns how the run ends."""
-    words = [program, *map(bytes_of, row["words"])]
+    words = [program, *map(bytes_of, case["words"])]
     with contextlib.ExitStack() as open_files:
-        streams = {"stdout": subprocess.PIPE, "stderr": subprocess.PIPE, "preexec_fn": limited(row, has_stack), "timeout": SECONDS}
-        if "output" in row:
-            streams["stdout"] = open_files.enter_context(open(row["output"], "wb"))
-        if isinstance(row["input"], dict) and "path" in row["input"]:
-            streams["stdin"] = os.open(row["input"]["path"], os.O_RDONLY)
+        streams = {"stdout": subprocess.PIPE, "stderr": subprocess.PIPE, "preexec_fn": limited(case, has_stack), "timeout": SECONDS}
+        if "output" in case:
+            streams["stdout"] = open_files.enter_context(open(case["output"], "wb"))
+        if isinstance(case["input"], dict) and "path" in case["input"]:
+            streams["stdin"] = os.open(case["input"]["path"], os.O_RDONLY)
             open_files.callback(os.close, streams["stdin"])
         else:
-            streams["input"] = bytes_of(row["input"])
+            streams["input"] = bytes_of(case["input"])
         try:
             done = subprocess.run(words, check=False, **streams)
         except subprocess.TimeoutExpired:
@@ -134,33 +134,33 @@ def ended(program, row, has_stack=False):
 
 
 def ask(program, name, spelled, has_stack):
-    """Runs the program on a row, tells what was asked, wanted and came where that does not hold, and returns whether it holds."""
+    """Runs the program on a case, tells what was asked, wanted and came where that does not hold, and returns whether it holds."""
     try:
-        row = run_of(json.loads(spelled))
-        ends = [wanted(row), *([wanted(row["or"])] if "or" in row else [])]
+        case = run_of(json.loads(spelled))
+        ends = [wanted(case), *([wanted(case["or"])] if "or" in case else [])]
     except (KeyError, TypeError, ValueError):
-        print(f"{name} is no row: {spelled}", flush=True)
+        print(f"{name} is no case: {spelled}", flush=True)
         return False
-    end = ended(program, row, has_stack)
+    end = ended(program, case, has_stack)
     if end not in ends:
-        asked = shlex.join(["jpath", *(bytes_of(word).decode(errors="replace") for word in row["words"])])
-        print(f"{name} does not hold: {asked}, of {row['input']!r}: wanted {' or '.join(map(str, ends))}; came {end}", flush=True)
+        asked = shlex.join(["jpath", *(bytes_of(word).decode(errors="replace") for word in case["words"])])
+        print(f"{name} does not hold: {asked}, of {case['input']!r}: wanted {' or '.join(map(str, ends))}; came {end}", flush=True)
     return end in ends
 
 
 def back(spelled):
-    """Returns the rows that ask each path of this row as a query, each path once."""
-    row = json.loads(spelled)
-    kept = {member: row[member] for member in ("document", "json", "depth") if member in row}
-    asked = {text(node[0]): {"nodes": [node]} for node in row.get("nodes", [])}
-    asked |= {text(path): {"paths": [path]} for path in row.get("paths", [])}
-    return [json.dumps({"query": path, **kept, **end}) for path, end in asked.items() if path != text(row["query"])]
+    """Returns the cases that ask each path of this case as a query, each path once."""
+    case = json.loads(spelled)
+    kept = {member: case[member] for member in ("document", "json", "depth") if member in case}
+    asked = {text(node[0]): {"nodes": [node]} for node in case.get("nodes", [])}
+    asked |= {text(path): {"paths": [path]} for path in case.get("paths", [])}
+    return [json.dumps({"query": path, **kept, **end}) for path, end in asked.items() if path != text(case["query"])]
 
 
 def ask_rows(program, path, has_stack):
-    """Runs the program on the rows of a file, and on the paths of those that hold; returns whether each run holds."""
+    """Runs the program on the cases of a file, and on the paths of those that hold; returns whether each run holds."""
     held = []
-    for number, spelled in rows_of(path):
+    for number, spelled in cases_of(path):
         name = f"{os.path.basename(path)}, line {number}"
         held.append(ask(program, name, spelled, has_stack))
         for again in back(spelled) if held[-1] else []:

@@ -8,7 +8,7 @@ import sys
 
 from lib.repository import ROOT
 
-# Rows may nest deep, and the levels of a program that is not proved take more stack.
+# Cases may nest deep, and the levels of a program that is not proved take more stack.
 UNPROVED_STACK = 1 << 30
 
 

@@ -1,6 +1,6 @@
-"""Prints rows on random trees as texts, which `rows` asks: `tools/bench texts 10000 1 | crates/rows/out/rows`.
+"""Prints cases on random trees as texts, which `cases` asks: `tools/bench texts 10000 1 | crates/cases/out/cases`.
 
-A row is that `to_query_text` writes of a tree the text told here, which is read as the tree that the row's own text spells. Each row's own text
+A case is that `to_query_text` writes of a tree the text told here, which is read as the tree that the case's own text spells. Each case's own text
 spells a tree in a random way: names bare or quoted, characters as they are or escaped, numbers with a fraction or an exponent, blanks wherever the
 grammar of RFC 9535 has them. The other is written here by the form that docs/CALLING.md tells, and by no code of this repository.
 """
@@ -183,12 +183,12 @@ class Texts:
 
 def add_arguments(parser):
     """Adds the arguments of this command."""
-    parser.add_argument("count", type=int, help="how many rows")
+    parser.add_argument("count", type=int, help="how many cases")
     parser.add_argument("seed", type=int, help="the number that the random choices follow from")
 
 
 def run(options):
-    """Prints the rows."""
+    """Prints the cases."""
     texts = Texts(options.seed)
     for _ in range(options.count):
         own, written = same("$") + texts.segments(DEPTH)

@@ -1,4 +1,4 @@
-//! What no row asks of a run: streams that give and take little at a time, and that fail; and how often it flushes.
+//! What no case asks of a run: streams that give and take little at a time, and that fail; and how often it flushes.
 use crate::run::run;
 use std::alloc::Global;
 use std::io;

@@ -1,5 +1,0 @@
-use Rattle.rows.proofs.Docs.{object_members}
-use Rattle.rows.proofs.doc.kinds.object.Goals as goal
-
-pub returns-in-Members : goal.returns-in-Members
-returns-in-Members c = object_members c.args.doc.now c.in-Members.members c.in-Members.is

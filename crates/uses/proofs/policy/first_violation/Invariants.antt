@@ -1,8 +1,0 @@
-use Rattle.std.proofs.Common.{All, take}
-use Rattle.jsonpath_rust.specs.Document.{document_of}
-use Rattle.uses.specs.Policy.{IsKept}
-use Rattle.uses.proofs.policy.first_violation.Given as goal
-
--- the rules that were asked are kept
-abbrev pub invariant-loop-index : goal.invariant-loop-index
-invariant-loop-index g l = All (IsKept (document_of g.T.Queryable.tree g.T.Queryable.custom l.document.value.now)) (take l.index l.policy)
