@@ -1,7 +1,7 @@
 //! Calls that are made many times, on a small document, and deletions and maskings.
 use crate::timing::refused;
 use jsonpath_rust::parser::model::JpQuery;
-use jsonpath_rust::parser::{let_go, parse_json_path};
+use jsonpath_rust::parser::{drop_query, parse_json_path};
 use jsonpath_rust::query::{Queried, js_path};
 use jsonpath_rust::{Prepared, Whole};
 use serde_json::Value;
@@ -46,7 +46,7 @@ fn walk_each(alloc: Global, text: &str, document: &Whole<Value>, count: usize) -
         let prepared = Prepared::of(alloc, &query)?;
         drop(prepared.runner(alloc).nodes(alloc, document.as_ref())?);
     }
-    let_go(query);
+    drop_query(query);
     Ok(())
 }
 
@@ -60,7 +60,7 @@ pub fn deletion(
     let start = Instant::now(rt)?;
     let deleted = deleted(rt.alloc(), &query, document).map_err(refused);
     let taken = start.elapsed(rt)?;
-    let_go(query);
+    drop_query(query);
     Ok((deleted?, taken))
 }
 
@@ -80,7 +80,7 @@ pub fn masking(
     let start = Instant::now(rt)?;
     let masked = masked(rt.alloc(), &query, document, mask).map_err(refused);
     let taken = start.elapsed(rt)?;
-    let_go(query);
+    drop_query(query);
     Ok((masked?, taken))
 }
 

@@ -3,7 +3,7 @@ ghost use Rattle.std.specs.Prelude.{◌≡◌};
 
 use jsonpath_rust::parser::errors::JsonPathError;
 use jsonpath_rust::parser::model::JpQuery;
-use jsonpath_rust::parser::{let_go, parse_json_path};
+use jsonpath_rust::parser::{drop_query, parse_json_path};
 use jsonpath_rust::{Prepared, Whole};
 use serde_json::Value;
 use std::io;
@@ -40,7 +40,7 @@ pub fn fastest(
 ) -> io::Result<Round> {
     let query = parse_json_path(rt.alloc(), text).map_err(refused)?;
     let best = least_of(rt, &query, document, more);
-    let_go(query);
+    drop_query(query);
     best
 }
 
@@ -103,7 +103,7 @@ fn one_reading(rt: &(impl Clock + AllocGlobal), text: &str) -> io::Result<Durati
     let start = Instant::now(rt)?;
     let query = parse_json_path(rt.alloc(), text).map_err(refused)?;
     let taken = start.elapsed(rt);
-    let_go(query);
+    drop_query(query);
     taken
 }
 

@@ -2,7 +2,7 @@
 
 use crate::documents::read;
 use crate::timing::refused;
-use jsonpath_rust::{Condition, Prepared, Runner, Stop, Units, Whole};
+use jsonpath_rust::{Condition, Prepared, Runner, LimitError, Units, Whole};
 use serde_json::Value;
 use std::alloc::Global;
 use std::io;
@@ -110,13 +110,13 @@ fn is_replaced(
 }
 
 /// Whether something was returned, and the work not spent before.
-fn is_done<T: Drop>(given: Result<T, Stop>) -> io::Result<bool> {
+fn is_done<T: Drop>(given: Result<T, LimitError>) -> io::Result<bool> {
     match given {
         Ok(value) => {
             drop(value);
             Ok(true)
         }
-        Err(Stop::Spent) => Ok(false),
-        Err(Stop::Refused(error)) => Err(refused(error)),
+        Err(LimitError::Exhausted) => Ok(false),
+        Err(LimitError::Query(error)) => Err(refused(error)),
     }
 }

@@ -5,7 +5,7 @@ use crate::arguments::{
     each, given, given_if, list, number, size, step, steps, text, text_copy, truth,
 };
 use jsonpath_base::{
-    Extent, Pattern, SlicePlaces, Step, add_at, add_index, add_name, at, found,
+    MatchKind, Pattern, SlicePlaces, Step, add_at, add_index, add_name, at, found,
     location_by_pointer, path_of, picked, pointer_of, put_at, remove_all, replace_all,
     set_function, slice_places, starts_with, step_by_token, take_at, whole,
 };
@@ -166,11 +166,11 @@ pub fn found_by_pattern(
 }
 
 /// What of a text has to match: where `entire`, the entire text.
-fn extent_of(entire: bool) -> Extent {
+fn extent_of(entire: bool) -> MatchKind {
     if entire {
-        Extent::Entire
+        MatchKind::Full
     } else {
-        Extent::Substring
+        MatchKind::Partial
     }
 }
 

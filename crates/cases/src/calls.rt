@@ -39,7 +39,7 @@ fn without_document(alloc: Global, name: &str, asked: &[Value]) -> CaseResult<Va
                 makers::compared(alloc, name, text(first)?)
             }
             "parse_json_path" => trees::parsed(alloc, first),
-            "is_singular" | "is_local" | "fixed_steps" | "to_query_text" => {
+            "is_singular" | "is_local" | "constant_prefix" | "to_query_text" => {
                 trees::answer(alloc, name, first, &Value::Null)
             }
             _ => trees::grammar(alloc, name, first, Form::Tree),
@@ -79,7 +79,7 @@ fn of_two(alloc: Global, name: &str, first: &Value, second: &Value) -> CaseResul
         "take_at" => base::taken(alloc, first, second),
         "remove_all" => base::changed(alloc, name, [first, second, &Value::Null]),
         "to_query_text" => trees::unspelled(alloc, text(first)?, text(second)?),
-        "same_tree" | "calls_only" => trees::answer(alloc, name, first, second),
+        "same_tree" | "first_unknown_function" => trees::answer(alloc, name, first, second),
         "cursor" => trees::each(alloc, first, second),
         "built" => built::answer(alloc, text(first)?, second),
         "TestFunction::try_new" => makers::call(alloc, text(first)?, text(second)?),

@@ -7,7 +7,7 @@ use examples::patch::{Operation, apply_patch};
 use examples::redaction::redact;
 use examples::script::{Edit, apply_edits};
 use jsonpath_rust::Whole;
-use jsonpath_rust::query::{Prepared, Runner, Stop, at};
+use jsonpath_rust::query::{Prepared, Runner, LimitError, at};
 use serde_json::Value;
 use std::alloc::Global;
 
@@ -121,11 +121,11 @@ fn run_by(
 }
 
 /// How many, null where the units are not enough.
-fn told(count: Result<usize, Stop>) -> CaseResult<Value> {
+fn told(count: Result<usize, LimitError>) -> CaseResult<Value> {
     match count {
         Ok(count) => Ok(Value::from(count)),
-        Err(Stop::Spent) => Ok(Value::Null),
-        Err(Stop::Refused(error)) => Err(error.into()),
+        Err(LimitError::Exhausted) => Ok(Value::Null),
+        Err(LimitError::Query(error)) => Err(error.into()),
     }
 }
 

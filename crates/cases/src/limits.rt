@@ -1,7 +1,7 @@
 //! Conditions on a document, and how much work is just enough for a query or a condition.
 use crate::answers::{CaseResult, Refusal, are_same, pair, unchanged};
 use crate::arguments::{given_if, size, spelled, text, whole, whole_copy};
-use jsonpath_rust::{Condition, Prepared, Runner, Stop, Units, WholeRef};
+use jsonpath_rust::{Condition, Prepared, Runner, LimitError, Units, WholeRef};
 use serde_json::Value;
 use std::alloc::Global;
 
@@ -32,14 +32,14 @@ fn least<F: Fn(usize) -> CaseResult<bool>>(is_enough: F) -> CaseResult<usize>
 }
 
 /// Whether something was returned, and the work not spent before.
-fn done<T: Drop>(answer: Result<T, Stop>) -> CaseResult<bool> {
+fn done<T: Drop>(answer: Result<T, LimitError>) -> CaseResult<bool> {
     match answer {
         Ok(value) => {
             drop(value);
             Ok(true)
         }
-        Err(Stop::Spent) => Ok(false),
-        Err(Stop::Refused(error)) => Err(error.into()),
+        Err(LimitError::Exhausted) => Ok(false),
+        Err(LimitError::Query(error)) => Err(error.into()),
     }
 }
 

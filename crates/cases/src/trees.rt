@@ -2,10 +2,10 @@
 use crate::answers::{CaseResult, Refusal, answered, location, member};
 use crate::arguments::{given_if, list, spelled, text, texts};
 use crate::makers;
-use jsonpath_base::fixed_steps;
+use jsonpath_base::constant_prefix;
 use jsonpath_parser::model::JpQuery;
 use jsonpath_parser::{
-    Cursor, Parsed, calls_only, child_segment, comp_expr, comparable, filter_atom, function_expr,
+    Cursor, Parsed, first_unknown_function, child_segment, comp_expr, comparable, filter_atom, function_expr,
     is_local, is_singular, jp_query, literal, logical_expr, logical_expr_and, parse_json_path,
     rel_query, segment, segments, selector, singular_query, singular_query_segments,
     slice_selector, test, to_query_text,
@@ -128,8 +128,8 @@ fn asked(alloc: Global, name: &str, tree: &JpQuery, beside: &Value) -> CaseResul
     match name {
         "is_singular" => Ok(Value::from(is_singular(tree))),
         "is_local" => Ok(Value::from(is_local(tree))),
-        "calls_only" => other_name(alloc, tree, &texts(alloc, beside)?),
-        "fixed_steps" => location(alloc, &fixed_steps(alloc, tree)?),
+        "first_unknown_function" => other_name(alloc, tree, &texts(alloc, beside)?),
+        "constant_prefix" => location(alloc, &constant_prefix(alloc, tree)?),
         "same_tree" => Ok(Value::from(is_spelled(alloc, tree, text(beside)?)?)),
         "to_query_text" => written(alloc, tree),
         _ => Err(Refusal::NoAnswer),
@@ -138,7 +138,7 @@ fn asked(alloc: Global, name: &str, tree: &JpQuery, beside: &Value) -> CaseResul
 
 /// The first name of a custom function that is none of these, or null.
 fn other_name(alloc: Global, tree: &JpQuery, names: &[&str]) -> CaseResult<Value> {
-    match calls_only(tree, names) {
+    match first_unknown_function(tree, names) {
         Some(name) => Ok(Value::String(String::from_str(alloc, name)?)),
         None => Ok(Value::Null),
     }

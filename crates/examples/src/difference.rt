@@ -44,7 +44,7 @@ pub fn difference_of<T: Queryable>(
 ) -> Queried<Option<Difference>>
     ensures same { IfOk result (λ o. IfNone o (AreSame (values_of query.now (document_of T.tree T.custom document.entry.value.now)) (values_of other_query.now (document_of T.tree T.custom other.entry.value.now)))) }
     ensures different { IfOk result (λ o. IfSome o (λ d. IsFirstDifference d (values_of query.now (document_of T.tree T.custom document.entry.value.now)) (values_of other_query.now (document_of T.tree T.custom other.entry.value.now)))) }
-    ensures only { AreSame (values_of query.now (document_of T.tree T.custom document.entry.value.now)) (values_of other_query.now (document_of T.tree T.custom other.entry.value.now)) → IfOk result (λ o. o ≡ None) }
+    ensures complete { AreSame (values_of query.now (document_of T.tree T.custom document.entry.value.now)) (values_of other_query.now (document_of T.tree T.custom other.entry.value.now)) → IfOk result (λ o. o ≡ None) }
     ensures refused { IfErr result (λ e. IsStop (query_view query.now) (document_of T.tree T.custom document.entry.value.now) e ⊎ IsStop (query_view other_query.now) (document_of T.tree T.custom other.entry.value.now) e) }
 {
     let prepared = Prepared::of(alloc, query)?;

@@ -10,9 +10,9 @@ ghost use Rattle.jsonpath_rust.specs.base.Steps.{location_view};
 ghost use Rattle.examples.specs.Gateway.{IsAdmissible};
 
 use jsonpath_rust::parser::model::JpQuery;
-use jsonpath_rust::parser::{MAX_NESTING_DEPTH, calls_only, is_local};
+use jsonpath_rust::parser::{MAX_NESTING_DEPTH, first_unknown_function, is_local};
 use jsonpath_rust::query::laws::local_is_confined;
-use jsonpath_rust::query::{Prepared, Queried, Step, fixed_steps, starts_with};
+use jsonpath_rust::query::{Prepared, Queried, Step, constant_prefix, starts_with};
 use std::alloc::Global;
 
 /// The query of a text, prepared, if a tenant may ask it; None if not. The names and indexes at its front lead into the
@@ -38,7 +38,7 @@ pub fn admit(
     ensures confined { IfOk result (λ o. IfSome o (λ p. IsConfinedTo (location_view part.now) (prepared_view p))) }
 
     // Whatever query the text derives is admitted where it is admissible, unless memory ran out.
-    ensures only { (q : Query) → Derives MAX_NESTING_DEPTH text.now q → IsAdmissible (location_view part.now) functions.now q → MatchResult result
+    ensures complete { (q : Query) → Derives MAX_NESTING_DEPTH text.now q → IsAdmissible (location_view part.now) functions.now q → MatchResult result
         (λ o. IsSome o)
         (λ e. e ≡ OutOfMemory) }
     ensures refused { IfErr result (IsRefusal MAX_NESTING_DEPTH text.now) }
@@ -59,6 +59,6 @@ fn is_admissible(alloc: Global, query: &JpQuery, part: &[Step], functions: &[&st
     ensures admissible { IfOk result (λ b. IsTrue b ↔ IsAdmissible (location_view part.now) functions.now (query_view query.now)) }
     ensures memory { IfErr result (λ e. e ≡ OutOfMemory) }
 {
-    let front = fixed_steps(alloc, query)?;
-    Ok(starts_with(&front, part) && is_local(query) && calls_only(query, functions).is_none())
+    let front = constant_prefix(alloc, query)?;
+    Ok(starts_with(&front, part) && is_local(query) && first_unknown_function(query, functions).is_none())
 }

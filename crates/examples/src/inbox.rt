@@ -21,13 +21,13 @@ pub fn matching<T: Queryable>(
     query: &Prepared,
     documents: &[Whole<T>],
 ) -> Queried<Vec<bool>>
-    ensures { IfOk result (λ v. AllZip (λ w told. TellsWhether (document_of T.tree T.custom w.value) (prepared_view query.now) told) documents.now v.items) }
+    ensures { IfOk result (λ v. AllZip (λ w found_so_far. TellsWhether (document_of T.tree T.custom w.value) (prepared_view query.now) found_so_far) documents.now v.items) }
 {
     let mut runner = query.runner(alloc);
-    let mut told = Vec::new(alloc);
+    let mut found_so_far = Vec::new(alloc);
     for document in documents {
         let found = runner.has_node(alloc, document.as_ref())?;
-        told.push(found)?;
+        found_so_far.push(found)?;
     }
-    Ok(told)
+    Ok(found_so_far)
 }

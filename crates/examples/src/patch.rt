@@ -52,7 +52,7 @@ pub fn apply_patch(
     ensures made { IfOk result (λ o. IfNone o (all_patched operations.now (value_tree document.old.value) ≡ Some (value_tree document.new.value))) }
     ensures stuck { IfOk result (λ o. IfSome o (FailsAt operations.now (value_tree document.old.value))) }
     ensures unchanged { IfOk result (λ o. IfSome o (λ i. document.new.value ≡ document.old.value)) }
-    ensures kept { OnErr result (document.new.value ≡ document.old.value) }
+    ensures unchanged_on_error { OnErr result (document.new.value ≡ document.old.value) }
     ensures memory { IfErr result (λ e. e ≡ OutOfMemory) }
 {
     let mut edited = document.get().try_clone(alloc)?;

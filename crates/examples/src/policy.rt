@@ -40,7 +40,7 @@ pub fn first_violation<T: Queryable>(
     policy: &[Rule],
     document: WholeRef<'_, T>,
 ) -> Queried<Option<Violation>>
-    ensures kept { IfOk result (λ o. IfNone o (All (IsKept (document_of T.tree T.custom document.entry.value.now)) policy.now)) }
+    ensures obeyed { IfOk result (λ o. IfNone o (All (IsKept (document_of T.tree T.custom document.entry.value.now)) policy.now)) }
     ensures broken { IfOk result (λ o. IfSome o (λ v. IsFirst policy.now (IsKept (document_of T.tree T.custom document.entry.value.now)) v.rule
         (IsBroken (document_of T.tree T.custom document.entry.value.now) (option_map string_bytes v.path)))) }
     ensures refused { IfErr result (IsUnjudged policy.now (document_of T.tree T.custom document.entry.value.now)) }

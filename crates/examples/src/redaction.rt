@@ -58,7 +58,7 @@ pub fn redact(
 
     // What lies neither inside nor above a location that was selected is as it was.
     ensures rest { OnOk result ((m : Location) → IsApart (all_selected rules.now (value_document document.old.value)) m → at m (value_tree document.new.value) ≡ at m (value_tree document.old.value)) }
-    ensures kept { OnErr result (document.new.value ≡ document.old.value) }
+    ensures unchanged_on_error { OnErr result (document.new.value ≡ document.old.value) }
     ensures refused { IfErr result (IsRefusalOf rules.now (value_document document.old.value)) }
 {
     let places = all_places(alloc, rules, document)?;

@@ -39,7 +39,7 @@ pub fn apply_edits(
     ensures made { IfOk result (λ o. IfNone o (AllLeave edits.now (value_tree document.old.value) (value_tree document.new.value))) }
     ensures stuck { IfOk result (λ o. IfSome o (λ i. IsReached edits.now (value_tree document.old.value) i FindsNothing)) }
     ensures unchanged { IfOk result (λ o. IfSome o (λ i. document.new.value ≡ document.old.value)) }
-    ensures kept { OnErr result (document.new.value ≡ document.old.value) }
+    ensures unchanged_on_error { OnErr result (document.new.value ≡ document.old.value) }
     ensures refused { IfErr result (λ e. (e ≡ OutOfMemory) ⊎ IsRefusedIn edits.now (value_tree document.old.value) e) }
 {
     let mut edited = document.try_clone(alloc)?;

@@ -20,7 +20,7 @@ use Rattle.jsonpath_rust.specs.documents.Meaning.{selected}
 use Rattle.jsonpath_base.specs.Pattern.{IsInvalid}
 use Rattle.jsonpath_rust.specs.documents.Patterns.{segments_patterns, AsksPattern}
 use Rattle.jpath.specs.Json.{json_text}
-use Rattle.jpath.specs.Words.{Asked, asked_by}
+use Rattle.jpath.specs.Words.{Request, asked_by}
 use Rattle.jpath.specs.declared.words.Command.{Command}
 use Rattle.jpath.specs.declared.words.Command.TheVariants.{Print, Delete}
 use Rattle.jpath.specs.declared.words.Listing.{Listing}
@@ -77,7 +77,7 @@ printed Delete q doc = deletion_text (distinct_count (selected q doc)) (without 
 
 -- The words ask for a query, of brackets no deeper than they say; the bytes are JSON of whole numbers; and the output is what the command prints.
 pub record IsOutput (words : List (List ℕ)) (bytes out : List ℕ) : Type 0 where
-  pub asked : Asked
+  pub asked : Request
   pub by_words : asked_by words ≡ Some asked
   pub query : syntax.Query
   pub derived : Derives asked.depth asked.query query
@@ -94,16 +94,16 @@ AppendsFront old new bs = (k : ℕ) × Appends old new (take k bs)
 
 -- the words ask for a query that the grammar derives
 abbrev pub AsksQuery : List (List ℕ) → Type 0
-AsksQuery words = (a : Asked) × (q : syntax.Query) × (asked_by words ≡ Some a) × Derives a.depth a.query q
+AsksQuery words = (a : Request) × (q : syntax.Query) × (asked_by words ≡ Some a) × Derives a.depth a.query q
 
 -- the words ask for a text that the parser refuses so, for another cause than memory
 abbrev pub RefusesQuery : List (List ℕ) → JsonPathError → Type 0
-RefusesQuery words e = (a : Asked) × (asked_by words ≡ Some a) × IsRefusal a.depth a.query e × (e ≢ OutOfMemory)
+RefusesQuery words e = (a : Request) × (asked_by words ≡ Some a) × IsRefusal a.depth a.query e × (e ≢ OutOfMemory)
 
 -- the words ask for a query that the grammar derives; the input is a document; and a pattern stands in the query whose value at some
 -- node of it is a text that `regex` reads
 abbrev pub AsksPatternOf : List (List ℕ) → Option (List ℕ) → Type 0
-AsksPatternOf words input = (a : Asked) × (q : syntax.Query) × (d : Data) × (asked_by words ≡ Some a) × Derives a.depth a.query q
+AsksPatternOf words input = (a : Request) × (q : syntax.Query) × (d : Data) × (asked_by words ≡ Some a) × Derives a.depth a.query q
     × IfSome input (λ bytes. IsWholeJson bytes d) × AsksPattern (segments_patterns q) (queried d)
 
 -- why a query is refused: by the parser; or, with the document read, by `InvalidJsonPath`, and there is such a pattern

@@ -8,7 +8,7 @@ use Rattle.jpath.specs.declared.words.Command.TheVariants.{Print, Delete}
 use Rattle.jpath.specs.declared.words.Listing.TheVariants.{Nodes, Values, Paths}
 
 -- a command, how deep the brackets of a query may nest, and the text of the query
-pub record Asked : Type 0 where
+pub record Request : Type 0 where
   pub command : Command
   pub depth : ℕ
   pub query : List ℕ
@@ -32,11 +32,11 @@ depth_of word = if is_depth word then Some (digits_value 10 word) else None
 abbrev pub option_of : List ℕ → List ℕ → Option ℕ
 option_of option word = if bytes_eq option (codes "--depth") then depth_of word else None
 
-abbrev pub request : List ℕ → Option ℕ → List ℕ → Option Asked
+abbrev pub request : List ℕ → Option ℕ → List ℕ → Option Request
 request command depth query = option_and_then (λ d. option_map (λ c. record { command = c; depth = d; query = query }) (command_of command)) depth
 
 -- a command and a query, which may be any text, and between them perhaps `--depth` and a depth; nothing else
-abbrev pub asked_by : List (List ℕ) → Option Asked
+abbrev pub asked_by : List (List ℕ) → Option Request
 asked_by (command ∷ query ∷ []) = request command (Some MAX_NESTING_DEPTH) query
 asked_by (command ∷ option ∷ depth ∷ query ∷ []) = request command (option_of option depth) query
 asked_by _ = None

@@ -7,7 +7,7 @@ ghost use Rattle.jpath.specs.Output.{IsOutput, AppendsFront, AsksQuery, IsFaultO
 use crate::fault::Fault;
 use crate::output::printed;
 use crate::words::request_of;
-use jsonpath_parser::{let_go, parse_json_path_within};
+use jsonpath_parser::{drop_query, parse_json_path_within};
 use std::alloc::{AllocError, Global};
 use std::io::{Read, Write};
 
@@ -48,12 +48,12 @@ pub fn run<R: Read, W: Write>(
     let bytes = match read_to_end(alloc, reader) {
         Ok(bytes) => bytes,
         Err(fault) => {
-            let_go(query);
+            drop_query(query);
             return Err(fault);
         }
     };
     let printed = printed(alloc, request.command, &query, bytes);
-    let_go(query);
+    drop_query(query);
     let output = printed?;
     write_out(writer, output.as_bytes())
 }

@@ -2,7 +2,7 @@
 use Rattle.std.specs.Prelude.{◌≡◌, ℕ, List, [], ◌∷◌, ◌++◌, ◌⊎◌, Bool, true, false, Option, Some, IsSome}
 use Rattle.std.specs.List.{Contains}
 use Rattle.jsonpath_parser.specs.tree.Syntax.{Selector, Selectors, Segment, Segments, Filter, Filters, Test, Call, search_call, match_call, Argument, Arguments, Query}
-use Rattle.jsonpath_parser.specs.tree.Typing.{PatternKey, over_segments, over_segment, over_selectors, over_selector, over_filter, over_filters, over_test, over_call, over_argument, over_arguments}
+use Rattle.jsonpath_parser.specs.tree.Typing.{TreeFold, over_segments, over_segment, over_selectors, over_selector, over_filter, over_filters, over_test, over_call, over_argument, over_arguments}
 use Rattle.jsonpath_parser.specs.Derives.{Derives, IsRefusal}
 use Rattle.jsonpath_parser.specs.declared.errors.JsonPathError.{JsonPathError}
 use Rattle.jsonpath_parser.specs.declared.errors.JsonPathError.TheVariants.{OutOfMemory}
@@ -21,7 +21,7 @@ pattern_of (search_call a b) = (false, b) ∷ []
 pattern_of (match_call a b) = (true, b) ∷ []
 pattern_of _ = []
 
-abbrev pub pattern_question : PatternKey (List (Bool × Argument))
+abbrev pub pattern_question : TreeFold (List (Bool × Argument))
 pattern_question = record { none = []; both = ◌++◌; of_test = λ t. []; of_side = λ x. []; of_root = []; of_call = pattern_of }
 
 -- the patterns that stand in a query

@@ -13,8 +13,8 @@ returns-clause-same g c =
     let tree = g.T.Queryable.tree in
     let q = c.args.query.now in let doc = document_of tree g.T.Queryable.custom c.args.document.value.now in
     let p = c.args.other_query.now in let other = document_of tree g.T.Queryable.custom c.args.other.value.now in
-    let values = subst (λ s. AllZip (IsValueAt doc) (selected s doc) (map (λ v. tree v.now) c.in_ok-values.values.items)) (c.runner.ensures ∙ c.in_ok-prepared.ensures.query) c.in_ok-values.ensures.told.values in
-    let others = subst (λ s. AllZip (IsValueAt other) (selected s other) (map (λ v. tree v.now) c.in_ok-others.others.items)) (c.runner-2.ensures ∙ c.in_ok-other_prepared.ensures.query) c.in_ok-others.ensures.told.values in
+    let values = subst (λ s. AllZip (IsValueAt doc) (selected s doc) (map (λ v. tree v.now) c.in_ok-values.values.items)) (c.runner.ensures ∙ c.in_ok-prepared.ensures.query) c.in_ok-values.ensures.outcome.values in
+    let others = subst (λ s. AllZip (IsValueAt other) (selected s other) (map (λ v. tree v.now) c.in_ok-others.others.items)) (c.runner-2.ensures ∙ c.in_ok-other_prepared.ensures.query) c.in_ok-others.ensures.outcome.values in
     let left = values_lent (λ v. tree v.now) doc (selected (query_view q) doc) c.in_ok-values.values.items c.deref.result.now values c.deref.ensures.value in
     let right = values_lent (λ v. tree v.now) other (selected (query_view p) other) c.in_ok-others.others.items c.deref-2.result.now others c.deref-2.ensures.value in
     (same_as (values_of q doc) (values_of p other) (map (λ v. tree v.now) c.deref.result.now) (map (λ v. tree v.now) c.deref-2.result.now) c.first_difference.result left right c.first_difference.ensures.same)
@@ -24,14 +24,14 @@ returns-clause-different g c =
     let tree = g.T.Queryable.tree in
     let q = c.args.query.now in let doc = document_of tree g.T.Queryable.custom c.args.document.value.now in
     let p = c.args.other_query.now in let other = document_of tree g.T.Queryable.custom c.args.other.value.now in
-    let values = subst (λ s. AllZip (IsValueAt doc) (selected s doc) (map (λ v. tree v.now) c.in_ok-values.values.items)) (c.runner.ensures ∙ c.in_ok-prepared.ensures.query) c.in_ok-values.ensures.told.values in
-    let others = subst (λ s. AllZip (IsValueAt other) (selected s other) (map (λ v. tree v.now) c.in_ok-others.others.items)) (c.runner-2.ensures ∙ c.in_ok-other_prepared.ensures.query) c.in_ok-others.ensures.told.values in
+    let values = subst (λ s. AllZip (IsValueAt doc) (selected s doc) (map (λ v. tree v.now) c.in_ok-values.values.items)) (c.runner.ensures ∙ c.in_ok-prepared.ensures.query) c.in_ok-values.ensures.outcome.values in
+    let others = subst (λ s. AllZip (IsValueAt other) (selected s other) (map (λ v. tree v.now) c.in_ok-others.others.items)) (c.runner-2.ensures ∙ c.in_ok-other_prepared.ensures.query) c.in_ok-others.ensures.outcome.values in
     let left = values_lent (λ v. tree v.now) doc (selected (query_view q) doc) c.in_ok-values.values.items c.deref.result.now values c.deref.ensures.value in
     let right = values_lent (λ v. tree v.now) other (selected (query_view p) other) c.in_ok-others.others.items c.deref-2.result.now others c.deref-2.ensures.value in
     (different_as (values_of q doc) (values_of p other) (map (λ v. tree v.now) c.deref.result.now) (map (λ v. tree v.now) c.deref-2.result.now) c.first_difference.result left right c.first_difference.ensures.different)
 
-pub returns-clause-only : goal.returns-clause-only
-returns-clause-only g c alike =
+pub returns-clause-complete : goal.returns-clause-complete
+returns-clause-complete g c alike =
     let tree = g.T.Queryable.tree in
     let doc = document_of tree g.T.Queryable.custom c.args.document.value.now in let other = document_of tree g.T.Queryable.custom c.args.other.value.now in
     no_difference (values_of c.args.query.now doc) (values_of c.args.other_query.now other) c.first_difference.result (returns-clause-different g c) alike

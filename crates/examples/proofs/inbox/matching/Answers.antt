@@ -10,11 +10,11 @@ loop-document-preserved g c =
     let tree = g.T.Queryable.tree in
     let doc = document_of tree g.T.Queryable.custom in
     let was = c.loop-document.invariant in
-    let tells = subst (λ v. TellsWhether (doc v) (prepared_view c.args.query.now) c.in_ok-found.found) c.as_ref.ensures (subst (λ q. TellsWhether (doc c.as_ref.result.value.now) q c.in_ok-found.found) was.same c.in_ok-found.ensures.told) in
+    let tells = subst (λ v. TellsWhether (doc v) (prepared_view c.args.query.now) c.in_ok-found.found) c.as_ref.ensures (subst (λ q. TellsWhether (doc c.as_ref.result.value.now) q c.in_ok-found.found) was.same c.in_ok-found.ensures.outcome) in
     record {
       same = c.in_ok-found.ensures.same ∙ was.same;
-      told = told_next (λ x b. TellsWhether (doc x.value) (prepared_view c.args.query.now) b) c.args.documents.now c.loop-document.told.items _ c.loop-document.document-index c.document-item.result c.in_ok-found.found was.told c.loop-document-test.true c.document-item.is tells c.in_ok-push.ensures.items;
+      found_so_far = told_next (λ x b. TellsWhether (doc x.value) (prepared_view c.args.query.now) b) c.args.documents.now c.loop-document.found_so_far.items _ c.loop-document.document-index c.document-item.result c.in_ok-found.found was.found_so_far c.loop-document-test.true c.document-item.is tells c.in_ok-push.ensures.items;
     }
 
 pub returns : goal.returns
-returns g c = told_all _ c.args.documents.now c.loop-document.told.items c.loop-document.document-index c.loop-document.invariant.told c.loop-document-test.false
+returns g c = told_all _ c.args.documents.now c.loop-document.found_so_far.items c.loop-document.document-index c.loop-document.invariant.found_so_far c.loop-document-test.false

@@ -9,5 +9,5 @@ use Rattle.examples.proofs.inbox.matching.Given as goal
 abbrev pub invariant-loop-document : goal.invariant-loop-document
 invariant-loop-document g l = record {
   same : runner_view l.runner ≡ prepared_view l.query;
-  told : AllZip (λ x b. TellsWhether (document_of g.T.Queryable.tree g.T.Queryable.custom x.value) (prepared_view l.query) b) (take l.document-index l.documents) l.told.items;
+  found_so_far : AllZip (λ x b. TellsWhether (document_of g.T.Queryable.tree g.T.Queryable.custom x.value) (prepared_view l.query) b) (take l.document-index l.documents) l.found_so_far.items;
 }

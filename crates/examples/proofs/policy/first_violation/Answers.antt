@@ -48,6 +48,6 @@ loop-index-preserved g c =
     let met : is_met (doc v) r.condition ≡ true = sym c.in_ok-holds.ensures.holds ∙ c.if-not-branch.false in
     passed_next c.args.policy.now (IsKept (doc v)) c.loop-index.index r c.loop-index.invariant (omega arith) c.index-policy-index.is met
 
-pub returns-clause-kept : goal.returns-clause-kept
-returns-clause-kept g c =
+pub returns-clause-obeyed : goal.returns-clause-obeyed
+returns-clause-obeyed g c =
     passed_all c.args.policy.now (IsKept (document_of g.T.Queryable.tree g.T.Queryable.custom c.args.document.value.now)) c.loop-index.index c.loop-index.invariant (omega arith)

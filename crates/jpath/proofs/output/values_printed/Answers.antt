@@ -10,5 +10,5 @@ use Rattle.jpath.proofs.output.values_printed.Goals as goal
 pub returns-clause-text : goal.returns-clause-text
 returns-clause-text c =
     let doc = json_document c.args.document.value.now in
-    let values = subst (λ q. AllZip (IsValueAt doc) (selected q doc) (map (λ v. json_tree v.now) c.in_ok-values.values.items)) (c.runner.ensures ∙ c.in_ok-prepared.ensures.query) c.in_ok-values.ensures.told.values in
+    let values = subst (λ q. AllZip (IsValueAt doc) (selected q doc) (map (λ v. json_tree v.now) c.in_ok-values.values.items)) (c.runner.ensures ∙ c.in_ok-prepared.ensures.query) c.in_ok-values.ensures.outcome.values in
     c.in_ok-values_text.ensures ∙ value_lines-AllZip doc _ _ values

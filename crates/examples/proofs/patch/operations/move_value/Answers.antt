@@ -16,5 +16,5 @@ returns-clause-value c =
     let taken = rw c.in-Some-take_at.is at c.take_at.ensures.taken in
     let moves = moved_there c.args.from.now c.args.path.now t (value_tree c.remove_all.new.value) (value_tree c.in-Some-take_at.moved) l
     (sym c.is_inside.ensures ∙ c.if-is_inside.false) (sym place) ((c.among_is_listed.ensures (l ∷ []) l).1 (0, omega arith, refl)) (taken ∙ ap (λ ss. at (location_view ss) t) c.deref.ensures.value)
-    (c.in_ok-remove_all.ensures.removed ∙ ap (without (is_among (l ∷ []))) (c.take_at.ensures.left ∙ ap (λ ss. put (location_view ss) null t) c.deref.ensures.value)) in
+    (c.in_ok-remove_all.ensures.removed ∙ ap (without (is_among (l ∷ []))) (c.take_at.ensures.remaining ∙ ap (λ ss. put (location_view ss) null t) c.deref.ensures.value)) in
     subst (λ o. IfOk c.add.result (λ b. o ≡ (if b then Some (value_tree c.add.new.document) else None))) (sym moves) c.add.ensures.value
