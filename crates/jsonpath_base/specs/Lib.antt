@@ -28,3 +28,9 @@ pub use Rattle.jsonpath_parser.specs.Slice
 pub use Rattle.jsonpath_parser.specs.SliceSteps
 pub use Rattle.jsonpath_parser.specs.Texts
 pub use Rattle.jsonpath_parser.specs.declared.errors.JsonPathError
+pub use Rattle.jsonpath_parser.specs.Derives
+pub use Rattle.jsonpath_parser.specs.tree.Syntax
+pub use Rattle.jsonpath_parser.specs.tree.View
+pub use Rattle.jsonpath_parser.specs.tree.Typing
+-- Files whose names stand in both crates, by the crate.
+pub use Rattle.jsonpath_parser.specs as parser

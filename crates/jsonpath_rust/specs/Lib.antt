@@ -21,6 +21,7 @@ pub use Rattle.jsonpath_base.specs.documents.Lending
 pub use Rattle.jsonpath_base.specs.documents.Locating
 pub use Rattle.jsonpath_base.specs.documents.Confining
 pub use Rattle.jsonpath_base.specs.documents.Masking
+pub use Rattle.jsonpath_rust.specs.documents.Whole
 pub use Rattle.jsonpath_rust.specs.selection.Only
 pub use Rattle.jsonpath_rust.specs.selection.Prepared
 pub use Rattle.jsonpath_rust.specs.selection.LimitError
@@ -37,7 +38,7 @@ pub use Rattle.jsonpath_parser.specs.Normal
 pub use Rattle.jsonpath_parser.specs.declared.errors.JsonPathError
 pub use Rattle.jsonpath_parser.specs.Lexical
 pub use Rattle.jsonpath_parser.specs.Strings
-pub use Rattle.jsonpath_parser.specs.PatternTable
+pub use Rattle.jsonpath_parser.specs.Numbers
 pub use Rattle.jsonpath_parser.specs.Depth
 pub use Rattle.jsonpath_parser.specs.tree.Syntax
 pub use Rattle.jsonpath_parser.specs.tree.View

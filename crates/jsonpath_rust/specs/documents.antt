@@ -1,4 +1,5 @@
 -- What a document is and what a query means of it, as jsonpath_base has it.
+pub mod Whole
 pub mod inner
 pub use Rattle.jsonpath_base.specs.documents.Document
 pub use Rattle.jsonpath_base.specs.documents.Node

@@ -8,4 +8,8 @@ pub mod selector;
 
 pub use crate::states::process::{Query, apply};
 pub use crate::states::processed::{processed_nodes, processed_values};
-pub use jsonpath_base::documents::state;
+
+/// What a state of an evaluation holds.
+pub mod state {
+    pub use jsonpath_base::documents::state::{Data, Pointer, State};
+}

@@ -1,3 +1,2 @@
 -- What the crate's own contracts and proofs say. Nothing here is part of what a query means.
-pub mod Operands
-pub mod Whole
+pub mod FilterValues

@@ -2,7 +2,7 @@
 ghost use Rattle.std.proofs.Props.{props};
 ghost use Rattle.std.specs.Prelude.{◌≡◌, ◌++◌, [], ◌∷◌, map, All, IsTrue, OnOk};
 ghost use Rattle.jsonpath_base.specs.documents.Args.{arg_value};
-ghost use Rattle.jsonpath_rust.specs.documents.inner.Whole.{tree_of, own_tree};
+ghost use Rattle.jsonpath_rust.specs.documents.Whole.{tree_of, own_tree};
 
 use crate::documents::queryable::{Arg, Queryable};
 use crate::documents::whole::{Whole, WholeRef};

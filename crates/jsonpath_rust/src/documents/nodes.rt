@@ -2,7 +2,7 @@
 ghost use Rattle.std.proofs.Props.{props};
 ghost use Rattle.std.specs.Prelude.{◌≡◌, ◌++◌, [], ◌∷◌, map, All, IsTrue, OnOk, string_bytes};
 ghost use Rattle.jsonpath_base.specs.documents.Answer.{shown};
-ghost use Rattle.jsonpath_rust.specs.documents.inner.Whole.{tree_of};
+ghost use Rattle.jsonpath_rust.specs.documents.Whole.{tree_of};
 
 use crate::documents::queryable::Queryable;
 use crate::documents::whole::WholeRef;

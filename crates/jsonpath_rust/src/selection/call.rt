@@ -21,6 +21,13 @@ use jsonpath_base::MatchKind;
 use jsonpath_base::engine::{Origin, PatternCache, PatternKey};
 use std::alloc::Global;
 
+/// What `match` or `search` takes.
+#[derive(Clone, Copy)]
+struct PatternOperands<'s> {
+    text: &'s Expr,
+    pattern: &'s Expr,
+}
+
 impl<'a: 's, 's, T: Queryable> WalkContext<'a, 's, T> {
     /// What a call returns at a value, to which the way leads.
     #[cycle(walk)]
@@ -59,10 +66,20 @@ impl<'a: 's, 's, T: Queryable> WalkContext<'a, 's, T> {
                 }
             }
             Call::Search(text, pattern) => {
-                self.match_or_search((text, pattern), MatchKind::Partial, at, state)
+                self.match_or_search(
+                    PatternOperands { text, pattern },
+                    MatchKind::Partial,
+                    at,
+                    state,
+                )
             }
             Call::Match(text, pattern) => {
-                self.match_or_search((text, pattern), MatchKind::Full, at, state)
+                self.match_or_search(
+                    PatternOperands { text, pattern },
+                    MatchKind::Full,
+                    at,
+                    state,
+                )
             }
         }
     }
@@ -72,23 +89,23 @@ impl<'a: 's, 's, T: Queryable> WalkContext<'a, 's, T> {
     #[cycle(walk)]
     fn match_or_search(
         &self,
-        args: (&'s Expr, &'s Expr),
+        operands: PatternOperands<'s>,
         extent: MatchKind,
         at: WholeRef<'a, T>,
         state: &mut WalkState<'a, 's, '_, T>,
     ) -> WalkResult<FilterValue<'a, 's, T>>
         requires { IsPositionedAt self.now at state.old }
         ensures value { IfOk result (λ o. filter_value_tree o ≡ Some (truth (is_matched (is_entire extent)
-            (as_value (at_current self.now state.old at.entry (argued (expr_view (constants_of self.now) args.entry.0.now Single))))
-            (as_value (at_current self.now state.old at.entry (argued (expr_view (constants_of self.now) args.entry.1.now Single))))))) }
+            (as_value (at_current self.now state.old at.entry (argued (expr_view (constants_of self.now) operands.entry.text.now Single))))
+            (as_value (at_current self.now state.old at.entry (argued (expr_view (constants_of self.now) operands.entry.pattern.now Single))))))) }
         ensures comes { EndsProperly self.now state.old state.new
-            ((is_entire extent, expr_view (constants_of self.now) args.entry.1.now Single)
-            ∷ (argument_patterns (expr_view (constants_of self.now) args.entry.0.now Single)
-            ++ argument_patterns (expr_view (constants_of self.now) args.entry.1.now Single))) result }
+            ((is_entire extent, expr_view (constants_of self.now) operands.entry.pattern.now Single)
+            ∷ (argument_patterns (expr_view (constants_of self.now) operands.entry.text.now Single)
+            ++ argument_patterns (expr_view (constants_of self.now) operands.entry.pattern.now Single))) result }
     {
-        let origin = origin_of(args.1);
-        let text = self.operand(args.0, at, state)?;
-        let pattern = self.operand(args.1, at, state)?;
+        let origin = origin_of(operands.pattern);
+        let text = self.operand(operands.text, at, state)?;
+        let pattern = self.operand(operands.pattern, at, state)?;
         let how = (extent, origin);
         let cost = self
             .limit

@@ -12,7 +12,7 @@ use crate::documents::queryable::Queryable;
 use crate::documents::walk_error::{WalkError, WalkResult};
 use crate::documents::whole::WholeRef;
 use crate::selection::limits::{Budget, WorkLimit};
-use crate::selection::plan::{Constant, DOCUMENT_LEVELS, When};
+use crate::selection::plan::{Comparison, Constant, DOCUMENT_LEVELS, When};
 use crate::selection::sink::Demand;
 use crate::selection::walk::{WalkContext, WalkState};
 use jsonpath_base::engine::CurrentPath;
@@ -260,7 +260,15 @@ impl<'a: 's, 's, T: Queryable> WalkContext<'a, 's, T> {
             } => self.gather(segments, *demand, self.root, state),
             Constant::Answer(call) => Ok(CachedResult::Value(self.answer(call, self.root, state)?)),
             Constant::Comparison(operator, left, right) => {
-                let held = self.comparison_holds((*operator, left, right), self.root, state)?;
+                let held = self.comparison_holds(
+                    Comparison {
+                        operator: *operator,
+                        left,
+                        right,
+                    },
+                    self.root,
+                    state,
+                )?;
                 Ok(CachedResult::Value(FilterValue::Ref(FilterValueRef::Plain(Scalar::Truth(
                     held,
                 )))))

@@ -35,7 +35,15 @@ impl<'a: 's, 's, T: Queryable> WalkContext<'a, 's, T> {
         ensures comes { EndsProperly self.now state.old state.new (filter_patterns (filter_view (constants_of self.now) filter.now)) result }
     {
         if let Filter::Comparison(operator, left, right) = filter {
-            return self.comparison_holds((*operator, left, right), at, state);
+            return self.comparison_holds(
+                Comparison {
+                    operator: *operator,
+                    left,
+                    right,
+                },
+                at,
+                state,
+            );
         }
         self.filter_holds(filter, at, state)
     }
@@ -59,7 +67,15 @@ impl<'a: 's, 's, T: Queryable> WalkContext<'a, 's, T> {
             Filter::Group { expr, not } => Ok(self.filter_holds(expr, at, state)? != *not),
             Filter::Test { part, not } => Ok(self.tests_true(part, at, state)? != *not),
             Filter::Comparison(operator, left, right) => {
-                self.comparison_holds((*operator, left, right), at, state)
+                self.comparison_holds(
+                    Comparison {
+                        operator: *operator,
+                        left,
+                        right,
+                    },
+                    at,
+                    state,
+                )
             }
             Filter::Constant(number) => {
                 if self.ensure_cached(*number, Demand::Exists, state)? {
@@ -157,12 +173,12 @@ impl<'a: 's, 's, T: Queryable> WalkContext<'a, 's, T> {
         state: &mut WalkState<'a, 's, '_, T>,
     ) -> WalkResult<bool>
         requires { IsPositionedAt self.now at state.old }
-        ensures holds { IfOk result (λ b. b ≡ compares (operator_view comparison.entry.0)
-            (at_current self.now state.old at.entry (value_of (expr_view (constants_of self.now) comparison.entry.1.now Single)))
-            (at_current self.now state.old at.entry (value_of (expr_view (constants_of self.now) comparison.entry.2.now Single)))) }
+        ensures holds { IfOk result (λ b. b ≡ compares (operator_view comparison.entry.operator)
+            (at_current self.now state.old at.entry (value_of (expr_view (constants_of self.now) comparison.entry.left.now Single)))
+            (at_current self.now state.old at.entry (value_of (expr_view (constants_of self.now) comparison.entry.right.now Single)))) }
         ensures comes { EndsProperly self.now state.old state.new
-            (argument_patterns (expr_view (constants_of self.now) comparison.entry.1.now Single)
-            ++ argument_patterns (expr_view (constants_of self.now) comparison.entry.2.now Single)) result }
+            (argument_patterns (expr_view (constants_of self.now) comparison.entry.left.now Single)
+            ++ argument_patterns (expr_view (constants_of self.now) comparison.entry.right.now Single)) result }
     {
         if let Some(held) = self.compare_borrowed(
             comparison,
@@ -185,17 +201,17 @@ impl<'a: 's, 's, T: Queryable> WalkContext<'a, 's, T> {
         state: &mut WalkState<'a, 's, '_, T>,
     ) -> WalkResult<bool>
         requires { IsPositionedAt self.now at state.old }
-        ensures holds { IfOk result (λ b. b ≡ compares (operator_view comparison.entry.0)
-            (at_current self.now state.old at.entry (value_of (expr_view (constants_of self.now) comparison.entry.1.now Single)))
-            (at_current self.now state.old at.entry (value_of (expr_view (constants_of self.now) comparison.entry.2.now Single)))) }
+        ensures holds { IfOk result (λ b. b ≡ compares (operator_view comparison.entry.operator)
+            (at_current self.now state.old at.entry (value_of (expr_view (constants_of self.now) comparison.entry.left.now Single)))
+            (at_current self.now state.old at.entry (value_of (expr_view (constants_of self.now) comparison.entry.right.now Single)))) }
         ensures comes { EndsProperly self.now state.old state.new
-            (argument_patterns (expr_view (constants_of self.now) comparison.entry.1.now Single)
-            ++ argument_patterns (expr_view (constants_of self.now) comparison.entry.2.now Single)) result }
+            (argument_patterns (expr_view (constants_of self.now) comparison.entry.left.now Single)
+            ++ argument_patterns (expr_view (constants_of self.now) comparison.entry.right.now Single)) result }
     {
-        let left = self.value(comparison.1, Demand::Single, at, state)?;
-        let right = self.value(comparison.2, Demand::Single, at, state)?;
+        let left = self.value(comparison.left, Demand::Single, at, state)?;
+        let right = self.value(comparison.right, Demand::Single, at, state)?;
         let held = self.compare_charged(
-            comparison.0,
+            comparison.operator,
             left.as_side(),
             right.as_side(),
             &mut state.budget,
@@ -216,22 +232,22 @@ impl<'a: 's, 's, T: Queryable> WalkContext<'a, 's, T> {
     ) -> WalkResult<Option<bool>>
         requires { IsCacheCorrect self.now cache.now }
         ensures holds { (n : Node) → n.tree ≡ tree_of at.entry →
-            IfOk result (λ o. IfSome o (λ b. b ≡ compares (operator_view comparison.entry.0)
-            (value_of (expr_view (constants_of self.now) comparison.entry.1.now Single) (document self.now) n)
-            (value_of (expr_view (constants_of self.now) comparison.entry.2.now Single) (document self.now) n))) }
+            IfOk result (λ o. IfSome o (λ b. b ≡ compares (operator_view comparison.entry.operator)
+            (value_of (expr_view (constants_of self.now) comparison.entry.left.now Single) (document self.now) n)
+            (value_of (expr_view (constants_of self.now) comparison.entry.right.now Single) (document self.now) n))) }
         ensures halts { IfErr result (IsWalkError self.now.limit [] (document self.now)) }
     {
         // The right side is asked first, at no cost: the left one is paid for only where both are.
-        if !is_at_hand(comparison.2, cache) {
+        if !is_at_hand(comparison.right, cache) {
             return Ok(None);
         }
-        let Some(left) = self.borrowed_value(comparison.1, at, cache, budget)? else {
+        let Some(left) = self.borrowed_value(comparison.left, at, cache, budget)? else {
             return Ok(None);
         };
-        let Some(right) = self.borrowed_value(comparison.2, at, cache, budget)? else {
+        let Some(right) = self.borrowed_value(comparison.right, at, cache, budget)? else {
             return Ok(None);
         };
-        let held = self.compare_charged(comparison.0, left, right, budget)?;
+        let held = self.compare_charged(comparison.operator, left, right, budget)?;
         Ok(Some(held))
     }
 

@@ -49,8 +49,13 @@ pub enum Constant {
     Comparison(Operator, Expr, Expr),
 }
 
-/// A comparison: the operator, and the sides.
-pub type Comparison<'s> = (Operator, &'s Expr, &'s Expr);
+/// A comparison in a plan.
+#[derive(Clone, Copy)]
+pub struct Comparison<'s> {
+    pub operator: Operator,
+    pub left: &'s Expr,
+    pub right: &'s Expr,
+}
 
 /// A segment, which replaces each node by nodes below it (RFC 9535, 2.5).
 #[derive(Drop)]

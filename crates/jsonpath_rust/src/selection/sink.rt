@@ -85,8 +85,8 @@ pub enum Sink<'a, T: Queryable> {
     /// Marks each node's location to be removed or replaced. The number is what a copy costs that is put there. The
     /// removal is in a box, so that the other sinks stay small.
     LocationSet(Box<LocationSet>, usize),
-    /// Counts down from the second number, one for each node. It stops at 0.
-    Count(usize, usize),
+    /// Counts the nodes, and stops at `most`: `room` is how many may still come.
+    Count { room: usize, most: usize },
     /// The only node. It stops at the second.
     Single(WholeSingle<'a, T>),
     /// Keeps the values and Normalized Paths of the first nodes. It stops at the last of these.
@@ -100,8 +100,11 @@ impl<'a, T: Queryable> Sink<'a, T> {
         ensures { seen result ≡ start demand }
     {
         match demand {
-            Demand::Exists => Sink::Count(1, 1),
-            Demand::Count => Sink::Count(GREATEST_COUNT, GREATEST_COUNT),
+            Demand::Exists => Sink::Count { room: 1, most: 1 },
+            Demand::Count => Sink::Count {
+                room: GREATEST_COUNT,
+                most: GREATEST_COUNT,
+            },
             Demand::Single => Sink::Single(WholeSingle::Nothing),
             Demand::Values => Sink::Values(WholeValues::new(alloc)),
         }
@@ -151,7 +154,7 @@ impl<'a, T: Queryable> Sink<'a, T> {
                 current_path.mark_shared();
                 Ok(true)
             }
-            Sink::Count(room, _most) => Ok(take_count(room)),
+            Sink::Count { room, .. } => Ok(take_count(room)),
             Sink::Single(only) => Ok(take_sole(only, value)),
             Sink::Few(first) => first.take(alloc, value, current_path),
         }
@@ -161,7 +164,7 @@ impl<'a, T: Queryable> Sink<'a, T> {
     #[inline(always)]
     pub fn may_end(&self) -> bool {
         match self {
-            Sink::Count(_, most) => *most == 1,
+            Sink::Count { most, .. } => *most == 1,
             Sink::Single(_) | Sink::Few(_) => true,
             _ => false,
         }
@@ -173,7 +176,7 @@ impl<'a, T: Queryable> Sink<'a, T> {
         ensures { result_view result ≡ finished demand (seen self.entry) }
     {
         match self {
-            Sink::Count(room, most) => CachedResult::Value(demand.of_count(most.saturating_sub(
+            Sink::Count { room, most } => CachedResult::Value(demand.of_count(most.saturating_sub(
                 room,
             ))),
             Sink::Single(WholeSingle::One(value)) => CachedResult::Value(FilterValue::Ref(
@@ -192,7 +195,7 @@ impl<'a, T: Queryable> Sink<'a, T> {
         ensures { result ≡ count_in (seen self.entry) }
     {
         match self {
-            Sink::Count(room, most) => most.saturating_sub(room),
+            Sink::Count { room, most } => most.saturating_sub(room),
             other => {
                 drop(other);
                 0

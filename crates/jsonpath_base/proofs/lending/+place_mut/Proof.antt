@@ -33,7 +33,7 @@ use base.Logic.{via, id⊢, emp}
 use contract.Monad.{fact_i}
 use contract.Running.{tables_of}
 use denote.Triple.Cycle.{mutual_elim, measured, at_on}
-use denote.Triple.WalkResult.{walked_at, walk_meets_at}
+use denote.Triple.Walked.{walked_at, walk_meets_at}
 use denote.Builtin.{SliceRefOf}
 use denote.Slice.{ShrSlice, shr_slice_vals, shr_slice_Tells, shr_slice_copy}
 use mir.Val.{vptr}

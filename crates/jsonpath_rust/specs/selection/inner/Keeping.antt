@@ -8,7 +8,7 @@ use Rattle.jsonpath_base.specs.documents.Functions.{of_nodes}
 use Rattle.jsonpath_base.specs.documents.Meaning.{nodelist, holds, answer}
 use Rattle.jsonpath_base.specs.documents.Node.{root_node}
 use Rattle.jsonpath_base.specs.documents.Patterns.{AsksPattern, segments_patterns, filter_patterns, call_patterns}
-use Rattle.jsonpath_rust.specs.documents.inner.Whole.{document_at}
+use Rattle.jsonpath_rust.specs.documents.Whole.{document_at}
 use Rattle.jsonpath_rust.specs.selection.inner.PlanViews.{Constants, ConstantPart, constants_view, part_at}
 use Rattle.jsonpath_rust.specs.selection.inner.PlanViews as plan
 use Rattle.jsonpath_rust.specs.selection.inner.Wanting.{ResultView, value, values, refused, result_view, result_for}

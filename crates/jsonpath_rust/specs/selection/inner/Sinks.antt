@@ -12,7 +12,7 @@ use Rattle.jsonpath_base.specs.declared.current_path.CurrentPath.{CurrentPath}
 use Rattle.jsonpath_base.specs.documents.Node.{Node}
 use Rattle.jsonpath_base.specs.documents.Answer.{shown, paths_of}
 use Rattle.jsonpath_base.specs.documents.Functions.{greatest_count}
-use Rattle.jsonpath_rust.specs.documents.inner.Whole.{tree_of}
+use Rattle.jsonpath_rust.specs.documents.Whole.{tree_of}
 use Rattle.jsonpath_rust.specs.declared.selection.sink.FirstNodes.{FirstNodes}
 use Rattle.jsonpath_rust.specs.declared.selection.sink.Sink.{Sink}
 use Rattle.jsonpath_rust.specs.declared.selection.sink.Sink.TheVariants as sink

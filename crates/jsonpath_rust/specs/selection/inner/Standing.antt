@@ -5,7 +5,7 @@ use Rattle.jsonpath_parser.specs.tree.Syntax.{Argument}
 use Rattle.jsonpath_base.specs.Tree.{as_members}
 use Rattle.jsonpath_rust.specs.selection.inner.Halting.{IsWalkError}
 use Rattle.jsonpath_rust.specs.selection.inner.Keeping.{IsCacheCorrect, document}
-use Rattle.jsonpath_rust.specs.documents.inner.Whole.{tree_of}
+use Rattle.jsonpath_rust.specs.documents.Whole.{tree_of}
 use Rattle.jsonpath_rust.specs.selection.inner.Walking.{LeadTo}
 use Rattle.jsonpath_base.specs.declared.documents.walk_error.WalkError.{WalkError}
 use Rattle.jsonpath_base.specs.declared.documents.queryable.Queryable.{Ghosts}

@@ -10,7 +10,7 @@ use Rattle.jsonpath_base.specs.documents.Document.{Document}
 use Rattle.jsonpath_base.specs.documents.Meaning.{replaced, holds}
 use Rattle.jsonpath_base.specs.documents.Patterns.{segment_patterns, filter_patterns}
 use Rattle.jsonpath_rust.specs.selection.inner.PlanViews.{Constants, segment_view, filter_view}
-use Rattle.jsonpath_rust.specs.documents.inner.Whole.{tree_of}
+use Rattle.jsonpath_rust.specs.documents.Whole.{tree_of}
 use Rattle.jsonpath_base.specs.declared.step.StepRef.{StepRef}
 use Rattle.jsonpath_base.specs.declared.documents.queryable.Queryable.{Ghosts}
 use Rattle.jsonpath_rust.specs.declared.documents.whole.WholeRef.{WholeRef}

@@ -6,7 +6,7 @@ use Rattle.jsonpath_base.specs.documents.Document.{Document}
 use Rattle.jsonpath_base.specs.documents.Functions.{Evaluated, of_nodes, of_value, as_value, as_nodes, as_trees, as_truth, count_of, count_value}
 use Rattle.jsonpath_base.specs.documents.Meaning.{argued}
 use Rattle.jsonpath_base.specs.documents.Node.{Node}
-use Rattle.jsonpath_rust.specs.documents.inner.Operands.{filter_value_tree}
+use Rattle.jsonpath_rust.specs.documents.inner.FilterValues.{filter_value_tree}
 use Rattle.jsonpath_rust.specs.selection.inner.PlanViews.{Constants, expr_view}
 use Rattle.jsonpath_rust.specs.selection.inner.Sinks.{Seen, counted, one}
 use Rattle.jsonpath_rust.specs.selection.inner.Sinks as sinks

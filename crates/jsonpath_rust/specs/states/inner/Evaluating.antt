@@ -11,7 +11,7 @@ use Rattle.jsonpath_base.specs.documents.Patterns.{filter_patterns, selectors_pa
 use Rattle.jsonpath_rust.specs.states.Process.{holds_at, joined_from}
 use Rattle.jsonpath_base.specs.documents.State.{Target, Content, nothing, named_from, children_from, indexed_from, sliced_from, parents_from, kept_from, found_from, has_parts, pointers, target_of, targets_of, content_of}
 use Rattle.jsonpath_base.specs.documents.inner.Parts.{selectors_in}
-use Rattle.jsonpath_rust.specs.documents.inner.Whole.{document_at}
+use Rattle.jsonpath_rust.specs.documents.Whole.{document_at}
 use Rattle.jsonpath_base.specs.declared.documents.queryable.Queryable.{Ghosts}
 use Rattle.jsonpath_rust.specs.declared.states.evaluate.Evaluation.{Evaluation}
 use Rattle.jsonpath_rust.specs.declared.states.evaluate.segments.NodeOperation.{Part}

@@ -10,7 +10,7 @@ use crate::documents::queryable::Queryable;
 use crate::documents::whole::WholeRef;
 use crate::states::evaluate::single::plain_value;
 use crate::states::held::WholeData;
-use crate::states::state::{Data, Pointer, are_same};
+use jsonpath_base::documents::state::{Data, Pointer, are_same};
 use jsonpath_parser::model::Operator;
 
 /// Whether the comparison holds.

@@ -8,7 +8,7 @@ use crate::documents::Queried;
 use crate::documents::queryable::Queryable;
 use crate::documents::whole::{Whole, WholeRef};
 use crate::states::held::{WholeData, WholePointer, WholePointerRef, WholePointers};
-use crate::states::state::{Data, root_of};
+use jsonpath_base::documents::state::{Data, root_of};
 use std::alloc::{AllocError, Global};
 
 impl<'a, T: Queryable> WholeData<'a, T> {

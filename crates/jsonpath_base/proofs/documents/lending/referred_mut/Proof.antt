@@ -110,7 +110,7 @@ referred_mut_spec 𝓤 𝓛 𝓜 𝓡 wired =
     let z₂ : G₂.Ghost = (((κ, tt), (q, tt), tt, (sought, (lent, tt)), (u ∷ [], (v₁ ∷ [], tt))), tt) in
     nothing ! $ move ! (2 ∷ 0 ∷ []) $ join ! $ move ! (1 ∷ 0 ∷ []) $ join ! $ move ! (3 ∷ 2 ∷ []) $ join ! $ join ! $
     use0 𝓛 (raw (emp 𝓤)) (id⊢ 𝓤 _) $ move ! (1 ∷ 0 ∷ []) $ use2 𝓛 (raw (G₂.pre z₂)) (id⊢ 𝓤 _) $
-    calls_at ! (framed 𝓤 𝓛.H 𝓜 𝓣) G₂ (met₂ 𝓤 𝓛 𝓜 𝓡 (code.calls-jsonpath_base::documents::lending::answered 𝓡.env wired)) z₂ (and_then ! (get ! refl) (and_then ! (get ! refl) (no_more !))) (λ v₂.
+    calls_at ! (framed 𝓤 𝓛.H 𝓜 𝓣) G₂ (met₂ 𝓤 𝓛 𝓜 𝓡 (code.calls-jsonpath_base::documents::lending::answer 𝓡.env wired)) z₂ (and_then ! (get ! refl) (and_then ! (get ! refl) (no_more !))) (λ v₂.
     let Out = Result (Option (MutBor R.Denot)) E.Denot in let out = answer_of sought.steps lent in
     use1 𝓛 (later (some (λ (o : Out). ((‵ (flft κ q) ⊛ ‵ ftrue) ⊛ ‵ ((Answer κ).own_val o (v₂ ∷ []))) ⊛
     some (λ (ws : Lasts g₂.ended z₂.0.0 z₂.0.3). ‵ (lasts g₂.ended z₂.0.0 z₂.0.3 ws) ⊛ raw (fact 𝓤 (o ≡ out)))))) (id⊢ 𝓤 _) $

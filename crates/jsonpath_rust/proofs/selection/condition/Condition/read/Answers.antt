@@ -4,7 +4,7 @@ use Rattle.jsonpath_rust.specs.Prelude.Selection.{filter_query, in_filter, prepa
 use Rattle.jsonpath_rust.proofs.laws.selection.{expression_back, never_none}
 use Rattle.jsonpath_parser.specs.Grammar.{Spells}
 use Rattle.jsonpath_parser.specs.words.Depth.{depth}
-use Rattle.jsonpath_parser.specs.words.PatternTable.{SpellsNumber}
+use Rattle.jsonpath_parser.specs.words.Numbers.{SpellsNumber}
 use Rattle.jsonpath_rust.proofs.selection.condition.Condition.read.Goals as goal
 
 pub returns-in-Err-clause-complete : goal.returns-in-Err-clause-complete

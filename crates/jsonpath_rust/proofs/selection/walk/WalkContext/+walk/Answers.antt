@@ -446,9 +446,9 @@ comparison_holds-compare_borrowed-requires g t c = c.requires.ready
 pub comparison_holds-returns-in-Some-clause-holds : goal.comparison_holds-returns-in-Some-clause-holds
 comparison_holds-returns-in-Some-clause-holds g t c =
     let h = hand c.args.self.now c.args.state.now c.args.at in
-    let left = value_of (expr_view h.constants c.args.comparison.1.now Single) h.d h.n in
-    let right = value_of (expr_view h.constants c.args.comparison.2.now Single) h.d h.n in
-    of_some (λ b. b ≡ compares (operator_view c.args.comparison.0) left right) _ _ c.in-Some.is (c.in_ok-held.ensures.holds h.n refl)
+    let left = value_of (expr_view h.constants c.args.comparison.left.now Single) h.d h.n in
+    let right = value_of (expr_view h.constants c.args.comparison.right.now Single) h.d h.n in
+    of_some (λ b. b ≡ compares (operator_view c.args.comparison.operator) left right) _ _ c.in-Some.is (c.in_ok-held.ensures.holds h.n refl)
 
 pub comparison_holds-returns-clause-comes : goal.comparison_holds-returns-clause-comes
 comparison_holds-returns-clause-comes g t c = comes_after _ c.compare_evaluated.ensures.comes refl c.requires.ready (λ h. h)
@@ -460,9 +460,9 @@ compare_evaluated-value-requires-2 g t c κs within =
 pub compare_evaluated-returns-clause-holds : goal.compare_evaluated-returns-clause-holds
 compare_evaluated-returns-clause-holds g t c =
     let h = hand c.args.self.now c.args.state.now c.args.at in
-    let op = operator_view c.args.comparison.0 in
-    let right = c.in_ok-right.ensures.value ∙ ap (λ q. value_of (expr_view h.constants c.args.comparison.2.now Single) h.d (node_of q c.args.at)) c.in_ok-left.ensures.comes.back.same in
-    c.in_ok-held.ensures.holds ∙ ap (λ o. compares op o (filter_ref_tree c.as_side-2.result)) (c.as_side.ensures ∙ c.in_ok-left.ensures.value) ∙ ap (compares op (value_of (expr_view h.constants c.args.comparison.1.now Single) h.d h.n)) (c.as_side-2.ensures ∙ right)
+    let op = operator_view c.args.comparison.operator in
+    let right = c.in_ok-right.ensures.value ∙ ap (λ q. value_of (expr_view h.constants c.args.comparison.right.now Single) h.d (node_of q c.args.at)) c.in_ok-left.ensures.comes.back.same in
+    c.in_ok-held.ensures.holds ∙ ap (λ o. compares op o (filter_ref_tree c.as_side-2.result)) (c.as_side.ensures ∙ c.in_ok-left.ensures.value) ∙ ap (compares op (value_of (expr_view h.constants c.args.comparison.left.now Single) h.d h.n)) (c.as_side-2.ensures ∙ right)
 
 pub compare_evaluated-returns-clause-comes : goal.compare_evaluated-returns-clause-comes
 compare_evaluated-returns-clause-comes g t c =
@@ -472,12 +472,12 @@ compare_evaluated-returns-clause-comes g t c =
 pub compare_evaluated-returns-in_err-left-clause-comes : goal.compare_evaluated-returns-in_err-left-clause-comes
 compare_evaluated-returns-in_err-left-clause-comes g t c =
     let constants = constants_of c.args.self.now in
-    comes_so _ _ c.from_residual.ensures.1 c.in_err-left.ensures.comes (λ h. asked_left (argument_patterns (expr_view constants c.args.comparison.1.now Single)) (argument_patterns (expr_view constants c.args.comparison.2.now Single)) h)
+    comes_so _ _ c.from_residual.ensures.1 c.in_err-left.ensures.comes (λ h. asked_left (argument_patterns (expr_view constants c.args.comparison.left.now Single)) (argument_patterns (expr_view constants c.args.comparison.right.now Single)) h)
 
 pub compare_evaluated-returns-in_err-right-clause-comes : goal.compare_evaluated-returns-in_err-right-clause-comes
 compare_evaluated-returns-in_err-right-clause-comes g t c =
     let constants = constants_of c.args.self.now in
-    comes_so _ _ c.from_residual-in_err-right.ensures.1 c.in_err-right.ensures.comes (λ h. asked_right (argument_patterns (expr_view constants c.args.comparison.1.now Single)) (argument_patterns (expr_view constants c.args.comparison.2.now Single)) h)
+    comes_so _ _ c.from_residual-in_err-right.ensures.1 c.in_err-right.ensures.comes (λ h. asked_right (argument_patterns (expr_view constants c.args.comparison.left.now Single)) (argument_patterns (expr_view constants c.args.comparison.right.now Single)) h)
 
 pub compare_evaluated-returns-in_err-held-clause-comes : goal.compare_evaluated-returns-in_err-held-clause-comes
 compare_evaluated-returns-in_err-held-clause-comes g t c =
@@ -523,9 +523,9 @@ match_or_search-operand-requires-2 g t c κs within = (omega (arith, c.decreases
 pub match_or_search-returns-clause-value : goal.match_or_search-returns-clause-value
 match_or_search-returns-clause-value g t c =
     let h = hand c.args.self.now c.args.state.now c.args.at in
-    let pattern = c.in_ok-pattern.ensures.value ∙ ap (λ q. as_value (argued (expr_view h.constants c.args.args.1.now Single) h.d (node_of q c.args.at))) c.in_ok-text.ensures.comes.back.same in
+    let pattern = c.in_ok-pattern.ensures.value ∙ ap (λ q. as_value (argued (expr_view h.constants c.args.operands.pattern.now Single) h.d (node_of q c.args.at))) c.in_ok-text.ensures.comes.back.same in
     let entire = is_entire c.args.extent in
-    ap (λ b. Some (truth b)) (c.in_ok-found.ensures.value ∙ ap (λ o. is_matched entire o (filter_value_tree c.in_ok-pattern.pattern)) (c.in_ok-text.ensures.value) ∙ ap (is_matched entire (as_value (argued (expr_view h.constants c.args.args.0.now Single) h.d h.n))) pattern)
+    ap (λ b. Some (truth b)) (c.in_ok-found.ensures.value ∙ ap (λ o. is_matched entire o (filter_value_tree c.in_ok-pattern.pattern)) (c.in_ok-text.ensures.value) ∙ ap (is_matched entire (as_value (argued (expr_view h.constants c.args.operands.text.now Single) h.d h.n))) pattern)
 
 pub match_or_search-returns-clause-comes : goal.match_or_search-returns-clause-comes
 match_or_search-returns-clause-comes g t c =
@@ -535,9 +535,9 @@ match_or_search-returns-clause-comes g t c =
 pub match_or_search-returns-in_err-found-clause-comes : goal.match_or_search-returns-in_err-found-clause-comes
 match_or_search-returns-in_err-found-clause-comes g t c =
     let h = hand c.args.self.now c.args.state.now c.args.at in
-    let pattern = c.in_ok-pattern.ensures.value ∙ ap (λ q. as_value (argued (expr_view h.constants c.args.args.1.now Single) h.d (node_of q c.args.at))) c.in_ok-text.ensures.comes.back.same in
-    let asked = expr_view h.constants c.args.args.1.now Single in
-    let more = argument_patterns (expr_view h.constants c.args.args.0.now Single) ++ argument_patterns asked in
+    let pattern = c.in_ok-pattern.ensures.value ∙ ap (λ q. as_value (argued (expr_view h.constants c.args.operands.pattern.now Single) h.d (node_of q c.args.at))) c.in_ok-text.ensures.comes.back.same in
+    let asked = expr_view h.constants c.args.operands.pattern.now Single in
+    let more = argument_patterns (expr_view h.constants c.args.operands.text.now Single) ++ argument_patterns asked in
     let why : IsWalkError c.args.self.now.limit ((is_entire c.args.extent, asked) ∷ more) h.d c.in_err-found.field-0.0 = λ memory spent. pattern_asked h.d (is_entire c.args.extent) asked more h.n _ c.requires.position pattern (c.in_err-found.ensures.refused memory) in
     let back = on c.in_ok-text.ensures.comes.back c.in_ok-pattern.ensures.comes.back in
     comes_halt _ _ c.from_residual-in_err-found.ensures.1 back.ready why (λ h. h)
@@ -545,15 +545,15 @@ match_or_search-returns-in_err-found-clause-comes g t c =
 pub match_or_search-returns-in_err-text-clause-comes : goal.match_or_search-returns-in_err-text-clause-comes
 match_or_search-returns-in_err-text-clause-comes g t c =
     let constants = constants_of c.args.self.now in
-    let text = expr_view constants c.args.args.0.now Single in
-    let pattern = expr_view constants c.args.args.1.now Single in
+    let text = expr_view constants c.args.operands.text.now Single in
+    let pattern = expr_view constants c.args.operands.pattern.now Single in
     comes_so _ _ c.from_residual.ensures.1 c.in_err-text.ensures.comes (λ h. asked_rest (is_entire c.args.extent, pattern) _ (asked_left (argument_patterns text) (argument_patterns pattern) h))
 
 pub match_or_search-returns-in_err-pattern-clause-comes : goal.match_or_search-returns-in_err-pattern-clause-comes
 match_or_search-returns-in_err-pattern-clause-comes g t c =
     let constants = constants_of c.args.self.now in
-    let text = expr_view constants c.args.args.0.now Single in
-    let pattern = expr_view constants c.args.args.1.now Single in
+    let text = expr_view constants c.args.operands.text.now Single in
+    let pattern = expr_view constants c.args.operands.pattern.now Single in
     comes_so _ _ c.from_residual-in_err-pattern.ensures.1 c.in_err-pattern.ensures.comes (λ h. asked_rest (is_entire c.args.extent, pattern) _ (asked_right (argument_patterns text) (argument_patterns pattern) h))
 
 pub match_or_search-returns-in_err-cost-clause-comes : goal.match_or_search-returns-in_err-cost-clause-comes

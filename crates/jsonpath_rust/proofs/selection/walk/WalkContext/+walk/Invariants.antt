@@ -53,7 +53,7 @@ abbrev pub decreases-answer : goal.decreases-answer
 decreases-answer g l = call_effort (size (tree_of l.self.now.root)) (call_view (constants_of l.self.now) l.call.now) + 5 * size (tree_of l.at) + 1
 
 abbrev pub decreases-match_or_search : goal.decreases-match_or_search
-decreases-match_or_search g l = argument_effort (size (tree_of l.self.now.root)) (expr_view (constants_of l.self.now) l.args.0.now Single) + argument_effort (size (tree_of l.self.now.root)) (expr_view (constants_of l.self.now) l.args.1.now Single) + 5 * size (tree_of l.at) + 4
+decreases-match_or_search g l = argument_effort (size (tree_of l.self.now.root)) (expr_view (constants_of l.self.now) l.operands.text.now Single) + argument_effort (size (tree_of l.self.now.root)) (expr_view (constants_of l.self.now) l.operands.pattern.now Single) + 5 * size (tree_of l.at) + 4
 
 abbrev pub decreases-custom : goal.decreases-custom
 decreases-custom g l = arguments_effort (size (tree_of l.self.now.root)) (arguments_meant (constants_of l.self.now) l.args.now) + 5 * size (tree_of l.at) + 5
@@ -62,10 +62,10 @@ abbrev pub decreases-gather : goal.decreases-gather
 decreases-gather g l = segments_effort (size (tree_of l.self.now.root)) (segments_meant (constants_of l.self.now) l.segments.now) + 5 * size (tree_of l.at) + 3
 
 abbrev pub decreases-comparison_holds : goal.decreases-comparison_holds
-decreases-comparison_holds g l = argument_effort (size (tree_of l.self.now.root)) (expr_view (constants_of l.self.now) l.comparison.1.now Single) + argument_effort (size (tree_of l.self.now.root)) (expr_view (constants_of l.self.now) l.comparison.2.now Single) + 5 * size (tree_of l.at) + 5
+decreases-comparison_holds g l = argument_effort (size (tree_of l.self.now.root)) (expr_view (constants_of l.self.now) l.comparison.left.now Single) + argument_effort (size (tree_of l.self.now.root)) (expr_view (constants_of l.self.now) l.comparison.right.now Single) + 5 * size (tree_of l.at) + 5
 
 abbrev pub decreases-compare_evaluated : goal.decreases-compare_evaluated
-decreases-compare_evaluated g l = argument_effort (size (tree_of l.self.now.root)) (expr_view (constants_of l.self.now) l.comparison.1.now Single) + argument_effort (size (tree_of l.self.now.root)) (expr_view (constants_of l.self.now) l.comparison.2.now Single) + 5 * size (tree_of l.at) + 4
+decreases-compare_evaluated g l = argument_effort (size (tree_of l.self.now.root)) (expr_view (constants_of l.self.now) l.comparison.left.now Single) + argument_effort (size (tree_of l.self.now.root)) (expr_view (constants_of l.self.now) l.comparison.right.now Single) + 5 * size (tree_of l.at) + 4
 
 abbrev pub decreases-tests_true : goal.decreases-tests_true
 decreases-tests_true g l = argument_effort (size (tree_of l.self.now.root)) (expr_view (constants_of l.self.now) l.part.now Exists) + 5 * size (tree_of l.at) + 3

@@ -4,7 +4,7 @@ use Rattle.std.specs.declared.fmt.Debug as debug
 use Rattle.jsonpath_base.specs.Tree as tree
 use Rattle.jsonpath_base.specs.Tree.{Tree}
 use Rattle.jsonpath_base.specs.documents.Args.{arg_value}
-use Rattle.jsonpath_rust.specs.documents.inner.Whole.{tree_of, own_tree}
+use Rattle.jsonpath_rust.specs.documents.Whole.{tree_of, own_tree}
 use Rattle.jsonpath_base.specs.declared.documents.queryable.Queryable.{Ghosts}
 use Rattle.jsonpath_rust.specs.declared.documents.args.Args.{Args}
 use Rattle.jsonpath_rust.specs.declared.documents.filter_value.FilterValueRef.{FilterValueRef}

@@ -1,4 +1,4 @@
--- What a value that is whole is, for the crate's own contracts and proofs: the definitions here are no part of what a query means.
+-- A value whose numbers are all integers, as a tree and as a document.
 use Rattle.std.specs.declared.fmt.Debug as debug
 use Rattle.jsonpath_base.specs.Tree.{Tree}
 use Rattle.jsonpath_base.specs.documents.Document.{Document, document_of}
