@@ -7,13 +7,13 @@ use Rattle.jsonpath_base.specs.Places.{at}
 use Rattle.jsonpath_base.specs.Put.{with_child}
 use Rattle.jsonpath_base.specs.Tree.{Tree, list, object, Trees, no_trees, tree, Members, no_members, member, elements}
 
--- before the element of that index, or behind the last one
+-- before the element of that index, or after the last one
 abbrev pub with_new_element : ℕ → Tree → Trees → Trees
 with_new_element zero u ts = tree u ts
 with_new_element (suc i) u no_trees = no_trees
 with_new_element (suc i) u (tree t ts) = tree t (with_new_element i u ts)
 
--- in the place of the member of that name; if there is none, where the order of the names' bytes puts it
+-- in the place of the member of that name; if there is none, where it is in the order of the names' bytes
 abbrev pub with_new_member : List ℕ → Tree → Members → Members
 with_new_member k u no_members = member k u no_members
 with_new_member k u (member l t ms) = match_ordering (slice_cmp nat_cmp k l) (member k u (member l t ms)) (member l u ms) (member l t (with_new_member k u ms))
@@ -30,7 +30,7 @@ takes (index i) (list ts) = nat_le i (length (elements ts))
 takes (name k) (object ms) = true
 takes _ t = false
 
--- what stands at a location takes the step
+-- the value at a location takes the step
 abbrev pub takes_at : Location → Step → Tree → Bool
 takes_at l s t = unwrap_or (option_map (takes s) (at l t)) false
 
@@ -42,14 +42,14 @@ added (r ∷ l) s u t = with_child r (added l s u) t
 abbrev pub AddedIsThere : Type 0
 AddedIsThere = (l m : Location) (s : Step) (u t : Tree) → IsTrue (takes_at l s t) → at (l ++ s ∷ m) (added l s u t) ≡ at m u
 
--- A name leaves all its siblings.
+-- A new member leaves all its siblings as they were.
 abbrev pub AddedNameLeavesSiblings : Type 0
 AddedNameLeavesSiblings = (l m : Location) (j k : List ℕ) (u t : Tree) → (j ≡ k → ⊥) → at (l ++ name j ∷ m) (added l (name k) u t) ≡ at (l ++ name j ∷ m) t
 
--- An index leaves the elements before it, and moves the one that stood there and those behind by one.
+-- A new element leaves the elements before it, and moves the one at its index and those after it by one.
 abbrev pub AddedIndexMovesLater : Type 0
 AddedIndexMovesLater = (l m : Location) (i j : ℕ) (u t : Tree) → IsTrue (takes_at l (index i) t) → at (l ++ index (if nat_lt j i then j else suc j) ∷ m) (added l (index i) u t) ≡ at (l ++ index j ∷ m) t
 
--- Nothing changes that lies neither inside nor above the object or the list.
+-- Nothing changes that is neither inside nor above the object or the list.
 abbrev pub AddedLeavesTheRest : Type 0
 AddedLeavesTheRest = (l m : Location) (s : Step) (u t : Tree) → (Begins l m → ⊥) → (Begins m l → ⊥) → at m (added l s u t) ≡ at m t

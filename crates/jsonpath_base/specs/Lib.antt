@@ -32,5 +32,5 @@ pub use Rattle.jsonpath_parser.specs.Derives
 pub use Rattle.jsonpath_parser.specs.tree.Syntax
 pub use Rattle.jsonpath_parser.specs.tree.View
 pub use Rattle.jsonpath_parser.specs.tree.Typing
--- Files whose names stand in both crates, by the crate.
+-- Files whose names are in both crates, by the crate.
 pub use Rattle.jsonpath_parser.specs as parser

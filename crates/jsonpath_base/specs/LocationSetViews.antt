@@ -1,4 +1,4 @@
--- What a removal stands for.
+-- The locations of a set.
 use Rattle.std.specs.Prelude.{ℕ, Bool}
 use Rattle.jsonpath_parser.specs.Location.{Location}
 use Rattle.jsonpath_base.specs.Without.{distinct_count}
@@ -6,15 +6,15 @@ use Rattle.jsonpath_base.specs.inner.LocationTries.{listed, marked, EndsWith}
 use Rattle.jsonpath_base.specs.declared.removal.LocationSet.{LocationSet}
 use Rattle.jsonpath_base.specs.declared.removal.SortedLocations.{SortedLocations}
 
--- the set of the locations to be removed
+-- the locations to be removed or replaced
 abbrev pub location_set : LocationSet → Location → Bool
 location_set r = marked r.marks
 
--- how many distinct ones they are
+-- the number of distinct ones
 abbrev pub location_count : LocationSet → ℕ
 location_count r = distinct_count (listed r.marks)
 
--- the same of a removal in order
+-- the same for a sorted set
 abbrev pub sorted_set : SortedLocations → Location → Bool
 sorted_set r = marked r.marks
 

@@ -1,4 +1,4 @@
--- What a pattern that was read stands for, and which one a finder asks.
+-- The text of a pattern that was read, and the pattern of a finder.
 use Rattle.std.specs.Prelude.{ℕ, Bool, List, string_bytes}
 use Rattle.jsonpath_base.specs.Pattern.{is_entire}
 use Rattle.jsonpath_base.specs.declared.pattern.Pattern.{Pattern}

@@ -1,4 +1,4 @@
--- What contracts and proofs name, for one import a file. Nothing is declared here.
+-- The names that contracts and proofs import, for one import a file. Nothing is declared here.
 pub mod Documents
 pub mod States
 pub use Rattle.fast_float.specs.Text.{scan}

@@ -14,7 +14,7 @@ abbrev pub with_member : List ℕ → (Tree → Tree) → Members → Members
 with_member k f no_members = no_members
 with_member k f (member l t ms) = if bytes_eq k l then member l (f t) ms else member l t (with_member k f ms)
 
--- only the child at the step is another; where there is none, nothing is
+-- only the child at the step is changed; if there is none, nothing is
 abbrev pub with_child : Step → (Tree → Tree) → Tree → Tree
 with_child (index i) f (list ts) = list (with_element i f ts)
 with_child (name k) f (object ms) = object (with_member k f ms)
@@ -24,18 +24,18 @@ abbrev pub put : Location → Tree → Tree → Tree
 put [] u t = u
 put (s ∷ l) u t = with_child s (put l u) t
 
--- A write leaves every location as it was that lies neither inside nor above its own: that does not begin with it, and that it does not begin with.
+-- A write leaves every location as it was that is neither inside nor above its own: that does not begin with it, and that it does not begin with.
 abbrev pub PutLeavesTheRest : Type 0
 PutLeavesTheRest = (l m : Location) (u t : Tree) → (Begins l m → ⊥) → (Begins m l → ⊥) → at m (put l u t) ≡ at m t
 
--- Where something was, what was written stands there: at the location, and below it the parts of what was written.
+-- Where there was a value, there is what was written: at the location, and below it the parts of what was written.
 abbrev pub PutIsThere : Type 0
 PutIsThere = (l m : Location) (u t : Tree) → at (l ++ m) (put l u t) ≡ option_and_then (λ c. at m u) (at l t)
 
--- Above the location of a write stands what was there, with the same write in it.
+-- Above the location of a write there is what was there, with the same write in it.
 abbrev pub PutIsSeenAbove : Type 0
 PutIsSeenAbove = (l m : Location) (u t : Tree) → at l (put (l ++ m) u t) ≡ option_map (put m u) (at l t)
 
--- Where nothing is, a write changes nothing.
+-- Where there is no value, a write changes nothing.
 abbrev pub PutNowhere : Type 0
 PutNowhere = (l : Location) (u t : Tree) → at l t ≡ None → put l u t ≡ t

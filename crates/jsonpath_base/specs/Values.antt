@@ -1,4 +1,4 @@
--- How a `Value` of serde_json is a tree.
+-- The tree of a `Value` of serde_json.
 use Rattle.std.specs.Prelude.{ℤ, Bool, true, ◌&&◌, Option, Some, None, is_some}
 use Rattle.serde_json.specs.Data as json
 use Rattle.serde_json.specs.Data.{Data, Items, Members as DataMembers}
@@ -7,7 +7,7 @@ use Rattle.serde_json.specs.View.{view}
 use Rattle.serde_json.specs.declared.value.Value.{Value}
 use Rattle.jsonpath_base.specs.Tree.{Tree, null, truth, number, text, list, object, Trees, no_trees, tree, Members, no_members, member, has_distinct_names}
 
--- a number outside 64 bits stands as null
+-- a number outside 64 bits counts as null
 abbrev pub tree_of_number : Option ℤ → Tree
 tree_of_number None = null
 tree_of_number (Some n) = number n
@@ -29,7 +29,7 @@ abbrev mutual
   members_of json.no_members = no_members
   members_of (json.member k d ms) = member k (tree_of d) (members_of ms)
 
--- each number is a whole number of 64 bits
+-- each number is an integer of 64 bits
 abbrev mutual
   pub has_whole_numbers : Data → Bool
   has_whole_numbers (json.number n) = is_some (as_i64 n)
@@ -48,6 +48,7 @@ abbrev mutual
 abbrev pub value_tree : Value → Tree
 value_tree v = tree_of (view v)
 
--- Names are distinct in each object of a `Value`: its map keeps them in order. That stands here so that a proof has it of every whole value.
+-- Names are distinct in each object of a `Value`, because its map keeps them sorted. It is part of this definition so that a proof has it for every
+-- whole value.
 abbrev pub value_is_whole : Value → Bool
 value_is_whole v = has_whole_numbers (view v) && has_distinct_names (value_tree v)

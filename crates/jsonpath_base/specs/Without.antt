@@ -25,7 +25,7 @@ is_among ls l = list_any (λ m. is_location m l) ls
 abbrev pub AmongIsListed : Type 0
 AmongIsListed = (ls : List Location) (l : Location) → IsTrue (is_among ls l) ↔ Contains ls l
 
--- how many distinct ones
+-- the number of distinct locations in a list
 abbrev pub distinct_count : List Location → ℕ
 distinct_count [] = 0
 distinct_count (l ∷ ls) = if is_among ls l then distinct_count ls else suc (distinct_count ls)
@@ -34,17 +34,17 @@ distinct_count (l ∷ ls) = if is_among ls l then distinct_count ls else suc (di
 abbrev pub also : Location → (Location → Bool) → Location → Bool
 also at set l = is_location at l || set l
 
--- The set has this location too, and else what it had.
+-- The set has this location too, and otherwise what it had.
 pub record HasAlso (old : Location → Bool) (at : Location) (new : Location → Bool) : Type 0 where
   pub each : (l : Location) → new l ≡ also at old l
 
--- how many locations a set of so many has with this one too
+-- the number of locations in a set of n locations with this one too
 abbrev pub counted_with : Location → (Location → Bool) → ℕ → ℕ
 counted_with at set n = if set at then n else suc n
 
 -- ---- trees
 
--- Each child goes by its original location; those that stay keep their order.
+-- Each child goes by its original location; those that remain keep their order.
 abbrev mutual
   pub thinned : (Location → Bool) → Tree → Tree
   thinned gone null = null

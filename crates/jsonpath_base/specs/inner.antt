@@ -1,4 +1,4 @@
--- What this crate's own contracts and proofs say. No public contract cites it.
+-- The definitions for this crate's own contracts and proofs. No public contract cites them.
 pub mod PatternParts
 pub mod Groups
 pub mod LocationTries

@@ -1,4 +1,4 @@
-//! A new value in an object or a list of another value (RFC 6902, 4.1).
+//! Adds a value to an object or a list (RFC 6902, 4.1).
 ghost use Rattle.std.specs.Prelude.{◌≡◌, IfErr, IfOk, IsTrue, OnErr, OnOk, if◌then◌else◌, insert, is_ok, length, nat_le, string_cmp, true, false, unwrap_or};
 ghost use Rattle.jsonpath_base.specs.Prelude.{added, Adds, insert_entry, IsOrdered, location_view, owned_step, result_ok, takes, takes_at, value_is_whole, value_tree, view, with_new};
 
@@ -7,10 +7,10 @@ use jsonpath_parser::errors::{JsonPathError, Parsed};
 use serde_json::{Map, Value};
 use std::alloc::{AllocError, Global};
 
-/// Adds a value to the object or the list at the location `parent`, and returns true (RFC 6902, 4.1): to an object the member
-/// of a name, in the place of the one that is there; to a list an element before the one of an index, which may be the length
-/// of the list. Where no object or list is there that takes the step, it returns false and changes nothing, and the new value
-/// is dropped. Time as `at`, and linear in the elements behind the new one.
+/// Adds a value to the object or the list at the location `parent`, and returns true (RFC 6902, 4.1). An object gets a
+/// member, which replaces a member of the same name. A list gets an element before the one of an index, which may be
+/// the length of the list. Where no object or list takes the step, it returns false, changes nothing, and drops the new
+/// value. It takes the time of `at`, and time linear in the elements after the new one.
 ///
 /// # Errors
 ///
@@ -32,7 +32,7 @@ pub fn add_at(
     Ok(add_below(value, parent, step, new)?)
 }
 
-/// As [`add_at`].
+/// Adds a value as [`add_at`] does.
 #[cycle(add_below)]
 fn add_below(value: &mut Value, parent: &[Step], step: Step, new: Value) -> Result<bool, AllocError>
     ensures { Adds (added (location_view parent.now) (owned_step step) (value_tree new)) (takes_at (location_view parent.now) (owned_step step)) new value.old value.new result }
@@ -87,7 +87,7 @@ fn add_element(items: &mut Vec<Value>, index: usize, new: Value) -> Result<bool,
     Ok(true)
 }
 
-/// Adds a member to an object, or puts it in the place of the one of its name.
+/// Adds a member to an object, or replaces the member of that name.
 fn add_member(
     members: &mut Map<String, Value>,
     name: String,

@@ -1,4 +1,4 @@
-//! The way from the root to the value at hand, and what is spelled of its Normalized Path (RFC 9535, 2.7).
+//! The current path: the steps from the root to the current node, and the text of its Normalized Path (RFC 9535, 2.7).
 ghost use Rattle.std.specs.Prelude.{◌≡◌, ◌≤◌, List, [], ◌∷◌, ◌++◌, length, IfOk, OnOk, OnErr, string_bytes};
 ghost use Rattle.jsonpath_parser.specs.Normal.{normal, step_text};
 ghost use Rattle.jsonpath_base.specs.Steps.{location_view, lent_step, lent_location};
@@ -9,16 +9,18 @@ use crate::size::steps_size;
 use crate::step::{Step, StepRef, add_index, add_name};
 use std::alloc::{AllocError, Global};
 
-/// The steps from the root to the value at hand. A step is settled once a path with it was written, or a location with it was
-/// marked; it stays so until it is popped, and is neither spelled nor compared again.
+/// The steps from the root to the current node.
+///
+/// A step is shared once a path with it was written, or a location with it was marked. It is shared until it is popped,
+/// and is neither written nor compared again.
 #[derive(Drop)]
 pub struct CurrentPath<'s> {
     pub steps: Vec<StepRef<'s>>,
-    /// The first steps, as a Normalized Path writes them.
+    /// The text of the first steps, as in a Normalized Path.
     text: String,
-    /// Where in the text each of them begins.
+    /// The place in the text where each of these steps begins.
     starts: Vec<usize>,
-    /// How many first steps are settled. No more are spelled.
+    /// The number of first steps that are shared. The text has no more steps than these.
     pub shared_len: usize,
     ghost spelled: { IsSpelled steps.items starts.items (string_bytes text) },
     ghost spells: { length starts.items ≤ shared_len },
@@ -26,7 +28,7 @@ pub struct CurrentPath<'s> {
 }
 
 impl<'s> CurrentPath<'s> {
-    /// At the root.
+    /// Returns the path of the root.
     pub fn new(alloc: Global) -> Self
         ensures { result.steps.items ≡ [] }
     {
@@ -38,7 +40,7 @@ impl<'s> CurrentPath<'s> {
         }
     }
 
-    /// A step further.
+    /// Adds a step.
     #[inline(always)]
     pub fn push(&mut self, step: StepRef<'s>) -> Result<(), AllocError>
         ensures steps { OnOk result (self.new.steps.items ≡ self.old.steps.items ++ step.entry ∷ []) }
@@ -47,7 +49,7 @@ impl<'s> CurrentPath<'s> {
         Ok(self.steps.push(step)?)
     }
 
-    /// A step back.
+    /// Removes the last step.
     #[inline(always)]
     pub fn pop(&mut self)
         ensures steps { (steps : List StepRef) (step : StepRef) → self.old.steps.items ≡ steps ++ step ∷ [] → self.new.steps.items ≡ steps }
@@ -65,7 +67,7 @@ impl<'s> CurrentPath<'s> {
         }
     }
 
-    /// Settles all steps.
+    /// Makes all steps shared.
     #[inline(always)]
     pub fn mark_shared(&mut self)
         ensures steps { self.new.steps.items ≡ self.old.steps.items }
@@ -74,7 +76,7 @@ impl<'s> CurrentPath<'s> {
         self.shared_len = self.steps.len();
     }
 
-    /// Leaves no more than so many first steps settled. Where more are, what is spelled is let go.
+    /// Leaves at most the first `count` steps shared. Where more were shared, the text is cleared.
     #[inline(always)]
     pub fn limit_shared(&mut self, count: usize)
         ensures steps { self.new.steps.items ≡ self.old.steps.items }
@@ -87,12 +89,12 @@ impl<'s> CurrentPath<'s> {
         }
     }
 
-    /// The size of the steps that are not settled: one for each, and for each 16 bytes of its name.
+    /// Returns the size of the steps that are not shared: one for each, and one for every 16 bytes of its name.
     pub fn unshared_size(&self) -> usize {
         steps_size(&self.steps, self.shared_len)
     }
 
-    /// The Normalized Path. It settles all steps.
+    /// Returns the Normalized Path. It makes all steps shared.
     pub fn path(&mut self, alloc: Global) -> Result<String, AllocError>
         ensures value { IfOk result (λ path. string_bytes path ≡ normal (lent_location self.old.steps.items)) }
         ensures same { self.new.steps.items ≡ self.old.steps.items }
@@ -105,7 +107,7 @@ impl<'s> CurrentPath<'s> {
         Ok(path)
     }
 
-    /// The location, with names of its own.
+    /// Returns the location, with names of its own.
     pub fn location(&self, alloc: Global) -> Result<Vec<Step>, AllocError>
         ensures value { IfOk result (λ steps. location_view steps.items ≡ lent_location self.now.steps.items) }
     {
@@ -117,7 +119,7 @@ impl<'s> CurrentPath<'s> {
     }
 }
 
-/// Spells the steps that are not spelled yet.
+/// Writes the steps that the text does not have yet.
 fn spell(
     alloc: Global,
     steps: &Vec<StepRef<'_>>,
@@ -135,7 +137,7 @@ fn spell(
     Ok(())
 }
 
-/// Spells a step behind those that are spelled. Where memory is refused, all stays as it was.
+/// Writes a step at the end of the text. Where memory is refused, nothing changes.
 fn spell_next(
     alloc: Global,
     step: StepRef<'_>,
@@ -157,7 +159,7 @@ fn spell_next(
     }
 }
 
-/// Follows a text by a step. Where memory is refused, the text stays as it was.
+/// Appends a step to a text. Where memory is refused, the text does not change.
 #[inline(always)]
 fn add_step(alloc: Global, text: &mut String, step: StepRef<'_>) -> Result<(), AllocError>
     ensures value { OnOk result (string_bytes text.new ≡ string_bytes text.old ++ step_text (lent_step step.entry)) }

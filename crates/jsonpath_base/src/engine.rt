@@ -1,6 +1,5 @@
-//! What the evaluator of `jsonpath_rust` keeps while it walks and asks patterns: the way to a value, the locations to be removed,
-//! and the patterns of a call.
-//! No other caller needs it.
+//! The parts that only the evaluator of `jsonpath_rust` needs: the current path of a walk, the set of locations to be
+//! removed or replaced, and the cache of patterns of a call.
 pub use crate::current_path::CurrentPath;
 pub use crate::pattern::build_error::{Built, PatternBuildError};
 pub use crate::pattern::cache::{PatternCache, PatternKey, QueryMatchers};

@@ -1,12 +1,13 @@
-//! When two values of `serde_json` are the same (RFC 9535, 2.3.5.2.2).
+//! The equality of values of `serde_json` (RFC 9535, 2.3.5.2.2).
 ghost use Rattle.std.specs.Prelude.{◌≡◌, IsTrue, All};
 ghost use Rattle.jsonpath_base.specs.Prelude.{items_view, members_of, members_view, object, same, same_trees, trees_of, value_is_whole, value_tree};
 
 use serde_json::{Map, Value};
 
-/// Whether two values are the same: of one kind, scalars equal, lists of one length the same place by place, objects
-/// with the same names the same name by name, in any order (RFC 9535, 2.3.5.2.2). Takes no memory, and time linear in
-/// the smaller of the two values: a map keeps its names in order, so two maps are walked side by side.
+/// Returns whether two values are the same: equal scalars of one kind, lists of one length with the same elements in
+/// order, or objects with the same names and the same value for each, in any order (RFC 9535, 2.3.5.2.2). It takes no
+/// memory, and time linear in the smaller of the two values: a map keeps its names sorted, so two maps are walked side
+/// by side.
 #[cycle(same)]
 pub fn same(left: &Value, right: &Value) -> bool
     requires left_whole { IsTrue (value_is_whole left.now) }

@@ -1,5 +1,5 @@
-//! The value at a location, lent for writing. All that is asked comes first, so that the functions that lend cannot fail: they
-//! go straight down, and count the steps that are left.
+//! Borrows the value at a location for writing. All checks come first, so the functions that borrow cannot fail: they
+//! go straight down, and count the steps that remain.
 ghost use Rattle.std.specs.Prelude.{◌≡◌, ◌<◌, ◌≤◌, IfSome, IsSome, IsTrue, Some, is_some, length, option_map};
 ghost use Rattle.jsonpath_base.specs.Prelude.{is_entry, location_view, lookup, name_in, next, rest, sem, value_is_whole, value_tree};
 ghost use Rattle.jsonpath_base.specs.Lending.{LendsAt};
@@ -13,8 +13,9 @@ use crate::step::Step;
 use parts::{is_index, item_at, list_mut, map_mut, member_by, take};
 use serde_json::{Map, Value};
 
-/// The value at the location of these steps, lent for writing; None where nothing is there (RFC 9535, 1.1). When the loan ends,
-/// what was written stands there, and nothing else has changed. It takes no memory, and time as twice `at`.
+/// Borrows the value at the location of these steps for writing, or returns None where there is no value (RFC 9535,
+/// 1.1). When the borrow ends, what was written is there, and nothing else has changed. It takes no memory, and twice
+/// the time of `at`.
 pub fn at_mut<'v>(value: &'v mut Value, place: &[Step]) -> Option<&'v mut Value>
     ensures* writes_back { sem 𝓛 (LendsAt (location_view place.now) value.entry result) }
     ensures value { option_map (λ v. value_tree v.now) result ≡ places.at (location_view place.now) (value_tree value.old) }
@@ -28,21 +29,21 @@ pub fn at_mut<'v>(value: &'v mut Value, place: &[Step]) -> Option<&'v mut Value>
     None
 }
 
-/// How many steps there are.
+/// Returns the number of steps.
 fn count(steps: &[Step]) -> usize
     ensures { result ≡ length steps.now }
 {
     steps.len()
 }
 
-/// Whether something is there.
+/// Returns whether there is a value at the location.
 fn is_there(value: &Value, steps: &[Step]) -> bool
     ensures { result ≡ is_some (places.at (location_view steps.now) (value_tree value.now)) }
 {
     at(value, steps).is_some()
 }
 
-/// The value where the steps that are left lead.
+/// Borrows the value that the remaining steps lead to.
 #[cycle(place_mut)]
 fn place_mut<'v>(value: &'v mut Value, steps: &[Step], remaining: usize) -> &'v mut Value
     requires { (remaining ≤ length steps.now) × IsSome (places.at (rest steps.now remaining) (value_tree value.old)) }
@@ -63,7 +64,7 @@ fn place_mut<'v>(value: &'v mut Value, steps: &[Step], remaining: usize) -> &'v 
     place_mut(member, steps, remaining - 1)
 }
 
-/// The member of the next step's name, which is there.
+/// Borrows the member of the next step's name, which is there.
 fn member_at<'v>(map: &'v mut Map<String, Value>, steps: &[Step], remaining: usize) -> &'v mut Value
     requires { (0 < remaining) × (remaining ≤ length steps.now) × IsSome (lookup (is_entry (name_in (next steps.now remaining))) map.old.entries) }
     ensures* writes_back { sem 𝓛 (LendsFound (name_in (next steps.now remaining)) map.entry result) }

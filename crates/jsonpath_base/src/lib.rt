@@ -1,6 +1,13 @@
-//! What evaluation stands on: documents and what a query means of them, the steps of Normalized Paths and the way to a value, the
-//! patterns of `match` and `search`, and values of `serde_json`, compared with one another and in sets, read, written,
-//! replaced and removed at locations.
+//! The basis of evaluation.
+//!
+//! - `documents` says what a document is, and what a query means for one.
+//! - `step`, `location`, `current_path` and `location_trie` hold steps, locations, and sets of locations; `pointer`
+//!   writes and reads locations as JSON Pointers.
+//! - `pattern` builds and caches the patterns of `match` and `search`.
+//! - `value`, `equality` and `set_functions` classify and compare values of `serde_json`.
+//! - `place`, `lending` and `adding` read and change such values at one location. `removal` removes or replaces them at
+//!   many, with `ordering`, `masking` and `size`.
+//! - `engine` exports what only the evaluator of `jsonpath_rust` needs, and `laws` states laws of the changes.
 #![tactic(auto)]
 
 mod adding;

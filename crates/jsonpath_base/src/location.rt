@@ -1,5 +1,5 @@
-//! Locations as values: whether one begins with another, the Normalized Path of each (RFC 9535, 2.7), and the one at the front of a
-//! query.
+//! Functions of locations: whether one begins with another, the Normalized Path of each (RFC 9535, 2.7), and the
+//! constant prefix of a query.
 ghost use Rattle.std.specs.Prelude.{◌≡◌, ◌↔◌, ◌++◌, IfErr, IfOk, IsTrue, OnOk, map, option_map, string_bytes};
 ghost use Rattle.jsonpath_base.specs.Prelude.{Begins, constant_prefix, location_view, owned_step, segment_view, segments_of, step_text};
 ghost use Rattle.jsonpath_parser.specs.Normal.{IsNormal};
@@ -12,16 +12,16 @@ use jsonpath_parser::errors::{JsonPathError, Parsed};
 use jsonpath_parser::model::{JpQuery, Segment, Selector};
 use std::alloc::Global;
 
-/// Whether a place begins with the steps of another, so that it is that one or lies below it. It takes no memory, and time
-/// linear in the steps of `beginning` and in the names that they hold.
+/// Returns whether a location begins with the steps of another, so that it is that one or is below it. It takes no
+/// memory, and time linear in the steps of `beginning` and their names.
 pub fn starts_with(place: &[Step], beginning: &[Step]) -> bool
     ensures { IsTrue result ↔ Begins (location_view beginning.now) (location_view place.now) }
 {
     place.starts_with(beginning)
 }
 
-/// The Normalized Path of the location of these steps (RFC 9535, 2.7), in time linear in the steps and in the names that they
-/// hold.
+/// Returns the Normalized Path of the location of these steps (RFC 9535, 2.7), in time linear in the steps and their
+/// names.
 ///
 /// # Errors
 ///
@@ -37,7 +37,7 @@ pub fn path_of(alloc: Global, place: &[Step]) -> Parsed<String>
     Ok(path)
 }
 
-/// Follows the path by a step.
+/// Appends a step to a path.
 fn add_step(alloc: Global, path: &mut String, step: &Step) -> Parsed<()>
     ensures value { OnOk result (string_bytes path.new ≡ string_bytes path.old ++ step_text (owned_step step.now)) }
     ensures memory { IfErr result (λ e. e ≡ JsonPathError.OutOfMemory) }
@@ -48,11 +48,12 @@ fn add_step(alloc: Global, path: &mut String, step: &Step) -> Parsed<()>
     }
 }
 
-/// The location with which each location begins that a query selects, in every document: the steps of its leading segments
-/// that are one name each, or one index from 0 on, up to the first that is neither (RFC 9535, 2.3.1 and 2.3.3). Of
-/// `$.tenants['t1'].orders[?@.total>10].id` it is `$['tenants']['t1']['orders']`, of `$..a` and of `$[-1]` it is `$`.
+/// Returns the location with which each location begins that a query selects, in every document: the steps of its first
+/// segments that are one name each, or one index from 0 on, up to the first that is neither (RFC 9535, 2.3.1 and
+/// 2.3.3). For `$.tenants['t1'].orders[?@.total>10].id` it is `$['tenants']['t1']['orders']`, and for `$..a` and
+/// `$[-1]` it is `$`.
 ///
-/// The time is linear in these steps and in the names that they hold.
+/// It takes time linear in these steps and their names.
 ///
 /// # Errors
 ///
@@ -64,7 +65,7 @@ pub fn constant_prefix(alloc: Global, query: &JpQuery) -> Parsed<Vec<Step>>
     leading_steps(alloc, &query.segments)
 }
 
-/// The steps of the leading segments, up to the first that is none.
+/// Returns the steps of the first segments, up to the first segment that is not a step.
 fn leading_steps(alloc: Global, segments: &[Segment]) -> Parsed<Vec<Step>>
     ensures value { IfOk result (λ v. location_view v.items ≡ constant_prefix (segments_of (map segment_view segments.now))) }
     ensures memory { IfErr result (λ e. e ≡ JsonPathError.OutOfMemory) }
@@ -79,7 +80,7 @@ fn leading_steps(alloc: Global, segments: &[Segment]) -> Parsed<Vec<Step>>
     Ok(steps)
 }
 
-/// The step that a segment is: one name, or one index from 0 on.
+/// Returns the step of a segment that is one name, or one index from 0 on.
 fn segment_step(alloc: Global, segment: &Segment) -> Parsed<Option<Step>>
     ensures value { IfOk result (λ o. option_map owned_step o ≡ fixed_step (segment_view segment.now)) }
     ensures memory { IfErr result (λ e. e ≡ JsonPathError.OutOfMemory) }
@@ -90,7 +91,7 @@ fn segment_step(alloc: Global, segment: &Segment) -> Parsed<Option<Step>>
     }
 }
 
-/// The step that a selector is.
+/// Returns the step of a selector that is a name, or an index from 0 on.
 fn selector_step(alloc: Global, selector: &Selector) -> Parsed<Option<Step>>
     ensures value { IfOk result (λ o. option_map owned_step o ≡ fixed_step (syntax.one (selector_view selector.now))) }
     ensures memory { IfErr result (λ e. e ≡ JsonPathError.OutOfMemory) }
@@ -102,7 +103,7 @@ fn selector_step(alloc: Global, selector: &Selector) -> Parsed<Option<Step>>
     }
 }
 
-/// The step that an index from 0 on is.
+/// Returns the step of an index from 0 on.
 fn index_step(index: i64) -> Option<Step>
     ensures { option_map owned_step result ≡ fixed_step (syntax.one (syntax.Selector.index index)) }
 {

@@ -1,4 +1,4 @@
-//! Sets of locations, in the order in which these were added.
+//! The trie of locations: locations that are marked, in the order in which they were added.
 ghost use Rattle.std.specs.Prelude.{◌≡◌, ℕ, ◌-◌, OnOk, ◌∷◌, [], length, take, slice_index_or, IsTrue, String, string_bytes};
 ghost use Rattle.jsonpath_parser.specs.Location as location;
 ghost use Rattle.jsonpath_base.specs.Prelude.{AddsIn, EndsWith, lent_location, LevelEnds, listed, LocationTrie, marks_count, to_member};
@@ -8,8 +8,8 @@ ghost use Rattle.std.specs.Global.{Global};
 use crate::step::StepRef;
 use std::alloc::{AllocError, Global};
 
-/// A set of locations, by their first steps: whether it holds the location with no step, and the rests of those that go on.
-/// A step may stand several times.
+/// A set of locations, by their first steps. It says whether the location with no step is marked, and holds the rest of
+/// each other location. A step may be there several times.
 #[derive(Drop)]
 pub struct LocationTrie {
     pub is_marked: bool,
@@ -18,7 +18,7 @@ pub struct LocationTrie {
 }
 
 impl LocationTrie {
-    /// The empty set.
+    /// Returns the empty set.
     pub fn new(alloc: Global) -> Self
         ensures none { listed result ≡ [] }
         ensures one { marks_count result ≡ 1 }
@@ -31,9 +31,9 @@ impl LocationTrie {
     }
 }
 
-/// Adds a location to the set: at each level in the last entry, where that has its step, and else in a new one. The last
-/// entries are taken to have so many of its first steps, which are not compared. The result says whether a new entry rises
-/// above those before it; true where there is none.
+/// Adds a location to the set: at each level to the last entry if that has the step, else to a new one. The first
+/// `shared_len` steps are assumed to be in the last entries, and are not compared. Returns whether a new entry is
+/// greater than those before it; true where there is no new entry.
 #[cycle(mark)]
 pub fn mark(
     alloc: Global,
@@ -65,7 +65,7 @@ pub fn mark(
     }
 }
 
-/// The same, of a location that goes to the member of this name first.
+/// Adds a location whose first step is the member of this name.
 #[cycle(mark)]
 fn mark_member(
     alloc: Global,
@@ -91,7 +91,7 @@ fn mark_member(
     Ok(rises)
 }
 
-/// The same, of a location that goes to the element of this index first.
+/// Adds a location whose first step is the element of this index.
 #[cycle(mark)]
 fn mark_element(
     alloc: Global,
@@ -116,7 +116,7 @@ fn mark_element(
     Ok(rises)
 }
 
-/// Makes room for a first entry, and for no more, since most levels have one alone.
+/// Makes room for one entry if there is none, and for no more, because most levels have only one.
 fn make_room<K>(below: &mut Vec<(K, LocationTrie)>) -> Result<(), AllocError>
     ensures { below.new.items ≡ below.old.items }
 {
@@ -126,7 +126,7 @@ fn make_room<K>(below: &mut Vec<(K, LocationTrie)>) -> Result<(), AllocError>
     Ok(())
 }
 
-/// Whether the last entry is of this name. A settled step is not compared.
+/// Returns whether the last entry is of this name. A shared step is not compared.
 #[inline(always)]
 fn ends_with_name(below: &[(String, LocationTrie)], name: &str, shared_len: usize) -> bool
     ensures { (e : String Global × LocationTrie) → IsTrue result → shared_len ≡ 0 → string_bytes (slice_index_or below.now (length below.now - 1) e).0 ≡ name.now }
@@ -140,7 +140,7 @@ fn ends_with_name(below: &[(String, LocationTrie)], name: &str, shared_len: usiz
     }
 }
 
-/// Whether the last entry is of this index. A settled step is not compared.
+/// Returns whether the last entry is of this index. A shared step is not compared.
 #[inline(always)]
 fn ends_with_index(below: &[(usize, LocationTrie)], index: usize, shared_len: usize) -> bool
     ensures { (e : ℕ × LocationTrie) → IsTrue result → shared_len ≡ 0 → (slice_index_or below.now (length below.now - 1) e).0 ≡ index }
@@ -154,7 +154,7 @@ fn ends_with_index(below: &[(usize, LocationTrie)], index: usize, shared_len: us
     }
 }
 
-/// Whether this name is greater than that of the last entry, if there is one.
+/// Returns whether this name is greater than that of the last entry; true if there is none.
 #[inline(always)]
 fn name_rises(below: &[(String, LocationTrie)], name: &str) -> bool {
     match below.last() {
@@ -163,7 +163,7 @@ fn name_rises(below: &[(String, LocationTrie)], name: &str) -> bool {
     }
 }
 
-/// Whether this index is greater than that of the last entry, if there is one.
+/// Returns whether this index is greater than that of the last entry; true if there is none.
 #[inline(always)]
 fn index_rises(below: &[(usize, LocationTrie)], index: usize) -> bool {
     match below.last() {

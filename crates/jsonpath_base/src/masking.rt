@@ -1,4 +1,4 @@
-//! What replaces values at marked locations: copies, which are all made first, and the walk that moves them in.
+//! Replaces values at marked locations: all copies are made first, and then moved in.
 ghost use Rattle.std.specs.Prelude.{◌≡◌, ◌<◌, ◌≤◌, ◌+◌, IfOk, IsTrue, string_cmp};
 ghost use Rattle.jsonpath_base.specs.Prelude.{AreAll, Data, data_overwritten, in_order, items_overwritten, items_view, level_in_order, marked, marked_below, members_overwritten, members_view, nat_cmp, outermost_count, outermost_total, to_member, view};
 ghost use Rattle.std.specs.Vec.{vec_len};
@@ -10,7 +10,7 @@ use crate::ordering::sum;
 use serde_json::{Map, Value};
 use std::alloc::{AllocError, Global};
 
-/// Copies of a value, one for each outermost location of the marks.
+/// Returns copies of a value, one for each outermost marked location.
 pub fn copies_for(
     alloc: Global,
     marks: &LocationTrie,
@@ -28,7 +28,7 @@ pub fn copies_for(
     Ok(copies)
 }
 
-/// How many of the marked locations lie inside no other.
+/// Returns the number of marked locations that are inside no other.
 #[cycle(outermost)]
 fn outermost(marks: &LocationTrie) -> Result<usize, AllocError>
     ensures { IfOk result (λ n. n ≡ outermost_count marks.now) }
@@ -41,7 +41,7 @@ fn outermost(marks: &LocationTrie) -> Result<usize, AllocError>
     sum(names, indexes)
 }
 
-/// The same of the locations below members.
+/// Returns the number of outermost locations below these members.
 #[cycle(outermost)]
 fn outermost_members(below: &[(String, LocationTrie)]) -> Result<usize, AllocError>
     ensures { IfOk result (λ n. n ≡ outermost_total below.now) }
@@ -54,7 +54,7 @@ fn outermost_members(below: &[(String, LocationTrie)]) -> Result<usize, AllocErr
     Ok(count)
 }
 
-/// The same of the locations below elements.
+/// Returns the number of outermost locations below these elements.
 #[cycle(outermost)]
 fn outermost_elements(below: &[(usize, LocationTrie)]) -> Result<usize, AllocError>
     ensures { IfOk result (λ n. n ≡ outermost_total below.now) }
@@ -67,7 +67,7 @@ fn outermost_elements(below: &[(usize, LocationTrie)]) -> Result<usize, AllocErr
     Ok(count)
 }
 
-/// Puts one of the copies in the place of each value that is marked and lies inside no other that is. It takes no memory.
+/// Replaces each value that is marked, and inside no other marked one, by one of the copies. It takes no memory.
 #[cycle(fill)]
 pub fn fill(value: &mut Value, marks: &LocationTrie, copies: &mut Vec<Value>)
     requires ordered { IsTrue (in_order marks.now) }
@@ -87,7 +87,7 @@ pub fn fill(value: &mut Value, marks: &LocationTrie, copies: &mut Vec<Value>)
     }
 }
 
-/// Does so in a list.
+/// Replaces what is marked in a list.
 #[cycle(fill)]
 fn fill_items(items: &mut Vec<Value>, marks: &[(usize, LocationTrie)], copies: &mut Vec<Value>)
     requires ordered { IsTrue (level_in_order nat_cmp marks.now) }
@@ -101,7 +101,7 @@ fn fill_items(items: &mut Vec<Value>, marks: &[(usize, LocationTrie)], copies: &
     }
 }
 
-/// Does so at an element, if the list is long enough.
+/// Replaces what is marked at an element, if the list is long enough.
 #[cycle(fill)]
 fn fill_item(items: &mut Vec<Value>, index: usize, marks: &LocationTrie, copies: &mut Vec<Value>)
     requires ordered { IsTrue (in_order marks.now) }
@@ -115,7 +115,7 @@ fn fill_item(items: &mut Vec<Value>, index: usize, marks: &LocationTrie, copies:
     }
 }
 
-/// Does so in an object.
+/// Replaces what is marked in an object.
 #[cycle(fill)]
 fn fill_members(
     members: &mut Map<String, Value>,
@@ -133,7 +133,7 @@ fn fill_members(
     }
 }
 
-/// Does so at a member, if there is one of that name.
+/// Replaces what is marked at a member, if there is one of that name.
 #[cycle(fill)]
 fn fill_member(
     members: &mut Map<String, Value>,
@@ -152,7 +152,7 @@ fn fill_member(
     }
 }
 
-/// Puts the last of the copies in the place of the value.
+/// Replaces the value by the last of the copies.
 fn put_copy(value: &mut Value, copies: &mut Vec<Value>)
     requires { 0 < vec_len copies.old }
     ensures put { (u : Data) → AreAll u copies.old.items → view value.new ≡ u }

@@ -1,4 +1,4 @@
-//! Marks in order: at each level the steps rise, and each stands once.
+//! Sorts a trie of locations: at each level the steps ascend, and each is there once.
 ghost use Rattle.std.specs.Prelude.{◌≡◌, ◌≤◌, ◌+◌, ◌++◌, true, if◌then◌else◌, IfOk, OnOk, IsTrue, string_cmp};
 ghost use Rattle.jsonpath_base.specs.Prelude.{distinct_count, in_order, IsJoined, IsSameSet, IsStrictlySortedBy, keys_of, level_in_order, listed, listed_in, marked, marked_in, marks_count, marks_total, nat_cmp, to_member};
 ghost use Rattle.jsonpath_parser.specs.Location as location;
@@ -8,7 +8,7 @@ use crate::location_trie::LocationTrie;
 use std::alloc::{AllocError, Global};
 use std::mem;
 
-/// Puts marks in order. The result says how many locations they hold.
+/// Sorts a trie. Returns the number of locations in it.
 #[cycle(order)]
 pub fn put_in_order(alloc: Global, marks: &mut LocationTrie) -> Result<usize, AllocError>
     ensures same { OnOk result (IsSameSet (marked marks.old) (marked marks.new)) }
@@ -20,7 +20,7 @@ pub fn put_in_order(alloc: Global, marks: &mut LocationTrie) -> Result<usize, Al
     sum(ones(marks.is_marked), sum(names, indexes)?)
 }
 
-/// Puts the marks below members in order. The result says how many locations they hold.
+/// Sorts the tries below members. Returns the number of locations in them.
 #[cycle(order)]
 fn order_members(
     alloc: Global,
@@ -39,7 +39,7 @@ fn order_members(
     Ok(count)
 }
 
-/// Puts the marks below elements in order. The result says how many locations they hold.
+/// Sorts the tries below elements. Returns the number of locations in them.
 #[cycle(order)]
 fn order_elements(
     alloc: Global,
@@ -58,14 +58,14 @@ fn order_elements(
     Ok(count)
 }
 
-/// One, if the location with no step is held.
+/// Returns one if the location with no step is marked, else 0.
 fn ones(is_marked: bool) -> usize
     ensures { result ≡ (if is_marked then 1 else 0) }
 {
     if is_marked { 1 } else { 0 }
 }
 
-/// The sum. No memory holds so many marks that it is refused.
+/// Returns the sum of two counts. It is never refused in practice, because no memory holds so many locations.
 pub fn sum(left: usize, right: usize) -> Result<usize, AllocError>
     ensures { IfOk result (λ n. n ≡ left + right) }
 {
@@ -75,8 +75,8 @@ pub fn sum(left: usize, right: usize) -> Result<usize, AllocError>
     }
 }
 
-/// Puts entries in the order of their keys, and joins those of one key, in place. Where they are in order it takes linear time.
-/// Runs of keys that rise are merged, as the two of `..*`.
+/// Sorts entries by their keys, and joins those with one key, in place. Where they are sorted already, it takes linear
+/// time. Runs of ascending keys are merged, such as the two of `..*`.
 fn order_keys<K: Ord + Drop>(
     alloc: Global,
     entries: &mut Vec<(K, LocationTrie)>,
@@ -103,7 +103,7 @@ fn order_keys<K: Ord + Drop>(
     Ok(())
 }
 
-/// Whether each key is less than the next.
+/// Returns whether each key is less than the next.
 fn keys_rise<K: Ord>(entries: &[(K, LocationTrie)]) -> bool
     ensures { result ≡ true → IsStrictlySortedBy K.cmp (keys_of entries.now) }
 {
@@ -115,7 +115,7 @@ fn keys_rise<K: Ord>(entries: &[(K, LocationTrie)]) -> bool
     true
 }
 
-/// Adds the locations of other marks to a set.
+/// Adds the locations of another trie to a trie.
 fn join(marks: &mut LocationTrie, others: LocationTrie) -> Result<(), AllocError>
     ensures joined { OnOk result (IsJoined (marked marks.old) (marked others) (marked marks.new)) }
     ensures fewer { OnOk result (marks_count marks.new + 1 ≤ marks_count marks.old + marks_count others) }
@@ -131,7 +131,8 @@ fn join(marks: &mut LocationTrie, others: LocationTrie) -> Result<(), AllocError
     Ok(())
 }
 
-/// Moves other entries to the end. Where they are no fewer than those before them it makes room for them, and for no more.
+/// Moves other entries to the end. Where they are at least as many as those before them, it makes exactly the room they
+/// need.
 fn append<K>(
     below: &mut Vec<(K, LocationTrie)>,
     others: &mut Vec<(K, LocationTrie)>,

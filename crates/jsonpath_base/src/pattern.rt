@@ -1,6 +1,8 @@
-//! The patterns of `match` and `search` (RFC 9535, 2.4.6 and 2.4.7): read (`Pattern`), asked of many texts (`Finder`), and kept
-//! with what asks them for the length of a call (`cells`, `finders`). `groupless` builds one without its groups, `weight` estimates
-//! what one takes, `unbuilt` has why one cannot be built.
+//! The patterns of `match` and `search` (RFC 9535, 2.4.6 and 2.4.7).
+//!
+//! A `Pattern` is read once, and a `Finder` searches many texts for it. `cache` holds the patterns of one call with
+//! their finders, and `slots` the places where patterns are built. `groupless` builds a pattern without its groups,
+//! `weight` estimates what a pattern costs, and `build_error` says why one cannot be built.
 ghost use Rattle.std.specs.Prelude.{◌≡◌, ◌↔◌, ◌++◌, ◌==◌, IsTrue, false, is_some, chars, IfOk, IfErr, OnOk, string_bytes, encode_utf8_all};
 ghost use Rattle.jsonpath_base.specs.Pattern.{translated, reading, wrapped, is_entire, pattern_sought, found, IsPatternRefusal, IsPatternBuildError};
 ghost use Rattle.jsonpath_base.specs.inner.PatternParts.{written, inside_after, escaped_after, FindsSame, MatchesSame};
@@ -18,17 +20,17 @@ use jsonpath_parser::errors::Parsed;
 use regex_syntax::{Config, ErrorKind, parse};
 use std::alloc::{AllocError, Global};
 
-/// What of a text a pattern has to match.
+/// Says what has to match a pattern.
 #[derive(Clone, Copy)]
 pub enum MatchKind {
-    /// The entire text, as `match` asks.
+    /// The entire text, as for `match`.
     Full,
-    /// Some substring, as `search` asks.
+    /// Some substring, as for `search`.
     Partial,
 }
 
 impl MatchKind {
-    /// Whether it is the entire text.
+    /// Returns whether it is the entire text.
     #[inline(always)]
     pub fn is_entire(self) -> bool
         ensures { result ≡ is_entire self }
@@ -40,13 +42,13 @@ impl MatchKind {
     }
 }
 
-/// A pattern that was read once, to be asked of many texts.
+/// A pattern that is read once, to search many texts for.
 #[derive(Drop)]
 pub struct Pattern {
     source: String,
     extent: MatchKind,
     byte_cost: usize,
-    // None where there is nothing to look for
+    // None where no text can match
     regex: Option<Regex>,
     ghost same: { FindsSame (pattern_sought (is_entire extent) (string_bytes source)) regex },
 }
@@ -54,8 +56,8 @@ pub struct Pattern {
 impl Pattern {
     ghost use Rattle.jsonpath_base.specs.PatternViews.{source_of, is_for_match, pattern_of};
 
-    /// Reads a pattern, for `match` or for `search`. A text that `regex` cannot read is found nowhere. Counted repetitions are
-    /// built as if they were written out, so `(a{1000}){1000}` costs as a million characters do.
+    /// Reads a pattern, for `match` or for `search`. A pattern that `regex` cannot read matches no text. Counted
+    /// repetitions are built as if they were written out, so `(a{1000}){1000}` costs as much as a million characters.
     ///
     /// # Errors
     ///
@@ -71,7 +73,7 @@ impl Pattern {
         }
     }
 
-    /// Reads a pattern as [`Pattern::new`] does, and makes no text where it is refused.
+    /// Reads a pattern as [`Pattern::new`] does, with an error that has no text.
     pub(crate) fn build(alloc: Global, pattern: &str, extent: MatchKind) -> Built<Pattern>
         ensures source { IfOk result (λ p. source_of p ≡ pattern.now) }
         ensures extent { IfOk result (λ p. is_for_match p ≡ is_entire extent) }
@@ -88,28 +90,28 @@ impl Pattern {
         })
     }
 
-    /// The text that was read.
+    /// Returns the text of the pattern.
     pub fn source(&self) -> &str
         ensures { result.now ≡ source_of self.now }
     {
         self.source.as_str()
     }
 
-    /// What of a text it has to match.
+    /// Returns what has to match the pattern.
     pub fn extent(&self) -> MatchKind
         ensures { is_entire result ≡ is_for_match self.now }
     {
         self.extent
     }
 
-    /// Whether it was read from this text, and for this extent.
+    /// Returns whether it was read from this text, and for this kind of match.
     pub fn is_of(&self, pattern: &str, extent: MatchKind) -> bool
         ensures { IsTrue result ↔ (source_of self.now ≡ pattern.now) × (is_for_match self.now ≡ is_entire extent) }
     {
         extent.is_entire() == self.extent.is_entire() && self.source.as_str() == pattern
     }
 
-    /// What asks this pattern of many texts: what one search has worked out is kept for the next.
+    /// Returns a finder, which caches what one search has computed for the next.
     pub fn finder(&self, alloc: Global) -> Result<Finder<'_>, AllocError>
         ensures pattern { IfOk result (λ f. pattern_of f ≡ self.now) }
     {
@@ -123,7 +125,7 @@ impl Pattern {
         })
     }
 
-    /// What `match` or `search` returns for a text. For many texts a [`Finder`] is faster.
+    /// Returns what `match` or `search` returns for a text. For many texts a [`Finder`] is faster.
     pub fn is_found(&self, alloc: Global, text: &str) -> Result<bool, AllocError>
         ensures value { IfOk result (λ b. b ≡ found (is_for_match self.now) (source_of self.now) text.now) }
     {
@@ -132,11 +134,11 @@ impl Pattern {
     }
 }
 
-/// What asks one pattern of many texts.
+/// Searches many texts for one pattern.
 #[derive(Drop)]
 pub struct Finder<'p> {
     pattern: &'p Pattern,
-    // None where there is nothing to look for
+    // None where no text can match
     matcher: Option<Matcher<'p>>,
     ghost same: { MatchesSame (pattern_sought (is_entire pattern.now.extent) (string_bytes pattern.now.source)) matcher },
 }
@@ -144,19 +146,20 @@ pub struct Finder<'p> {
 impl<'p> Finder<'p> {
     ghost use Rattle.jsonpath_base.specs.PatternViews.{source_of, is_for_match, pattern_of};
 
-    /// Whether its pattern was read from this text, and for this extent.
+    /// Returns whether its pattern was read from this text, and for this kind of match.
     pub fn is_of(&self, pattern: &str, extent: MatchKind) -> bool
         ensures { IsTrue result ↔ (source_of (pattern_of self.now) ≡ pattern.now) × (is_for_match (pattern_of self.now) ≡ is_entire extent) }
     {
         self.pattern.is_of(pattern, extent)
     }
 
-    /// What each byte costs that it searches, in units of work beside one.
+    /// Returns the units of work that each byte of a searched text costs, in addition to one.
     pub(crate) fn byte_cost(&self) -> usize {
         self.pattern.byte_cost
     }
 
-    /// What `match` or `search` returns for a text. It never fails: where memory runs out it searches more slowly.
+    /// Returns what `match` or `search` returns for a text. It never fails: where memory runs out, it searches more
+    /// slowly.
     pub fn is_found(&mut self, text: &str) -> bool
         ensures value { result ≡ found (is_for_match (pattern_of self.old)) (source_of (pattern_of self.old)) text.now }
         ensures same { pattern_of self.new ≡ pattern_of self.old }
@@ -168,8 +171,8 @@ impl<'p> Finder<'p> {
     }
 }
 
-/// What `match` returns for a text and a pattern, where `whole`, or else `search`. It reads the pattern anew each time: see
-/// [`Pattern`].
+/// Returns what `match` returns for a text and a pattern if `whole`, else what `search` returns. It reads the pattern
+/// anew each time; see [`Pattern`].
 ///
 /// # Errors
 ///
@@ -182,7 +185,7 @@ pub fn found(alloc: Global, text: &str, pattern: &str, whole: bool) -> Parsed<bo
     Ok(read.is_found(alloc, text)?)
 }
 
-/// The entire text where `whole`, else some substring.
+/// Returns `Full` if `whole`, else `Partial`.
 fn extent_of(whole: bool) -> MatchKind
     ensures { is_entire result ≡ whole }
 {
@@ -193,7 +196,7 @@ fn extent_of(whole: bool) -> MatchKind
     }
 }
 
-/// What looks for a pattern, or None where there is nothing to look for.
+/// Returns the regex of a pattern, or None where no text can match.
 fn built_for(alloc: Global, pattern: &str, extent: MatchKind) -> Built<Option<Regex>>
     ensures same { IfOk result (FindsSame (pattern_sought (is_entire extent) pattern.now)) }
     ensures refused { IfErr result (IsPatternBuildError (pattern_sought (is_entire extent) pattern.now)) }
@@ -209,7 +212,7 @@ fn built_for(alloc: Global, pattern: &str, extent: MatchKind) -> Built<Option<Re
     Regex::new(alloc, text.as_str())
 }
 
-/// Whether a text has a reading.
+/// Returns whether `regex` can read a text.
 fn is_read(alloc: Global, text: &str) -> Result<bool, AllocError>
     ensures { IfOk result (λ b. b ≡ is_some (reading (chars text.now))) }
 {
@@ -222,7 +225,7 @@ fn is_read(alloc: Global, text: &str) -> Result<bool, AllocError>
     }
 }
 
-/// The text, to be found where an entire text is it.
+/// Returns the pattern that matches a text only as a whole.
 fn wrap(alloc: Global, text: &str) -> Result<String, AllocError>
     ensures spelled { IfOk result (λ w. chars (string_bytes w) ≡ wrapped (chars text.now)) }
 {
@@ -232,7 +235,7 @@ fn wrap(alloc: Global, text: &str) -> Result<String, AllocError>
     Ok(anchored)
 }
 
-/// The pattern with each `.` outside a class and behind no backslash as `[^\n\r]`.
+/// Returns the pattern with `[^\n\r]` for each `.` that is outside a class and not after a backslash.
 fn translate(alloc: Global, pattern: &str) -> Result<String, AllocError>
     ensures value { IfOk result (λ t. string_bytes t ≡ encode_utf8_all (translated false (chars pattern.now))) }
     ensures spelled { IfOk result (λ t. chars (string_bytes t) ≡ translated false (chars pattern.now)) }
@@ -260,7 +263,7 @@ fn push_written(text: &mut String, inside: bool, escaped: bool, c: char) -> Resu
     Ok(())
 }
 
-/// Whether the next character stands inside a class.
+/// Returns whether the next character is inside a class.
 fn is_inside_after(inside: bool, escaped: bool, c: char) -> bool
     ensures { result ≡ inside_after inside escaped c }
 {
@@ -273,7 +276,7 @@ fn is_inside_after(inside: bool, escaped: bool, c: char) -> bool
     }
 }
 
-/// Whether the next character stands behind a backslash that counts.
+/// Returns whether the next character is after a backslash that counts.
 fn is_escaped_after(escaped: bool, c: char) -> bool
     ensures { result ≡ escaped_after escaped c }
 {

@@ -1,4 +1,4 @@
-//! The value at a location, to be read and to be written.
+//! Reads and writes the value at a location.
 ghost use Rattle.std.specs.Prelude.{◌≡◌, IfNone, IfSome, IsTrue, false, is_some, option_map};
 ghost use Rattle.jsonpath_base.specs.Prelude.{location_view, null, owned_step, put, value_is_whole, value_tree, view};
 ghost use Rattle.jsonpath_base.specs.Places as places;
@@ -7,9 +7,9 @@ use crate::step::Step;
 use serde_json::Value;
 use std::mem;
 
-/// The value at the location of these steps; None where nothing is there (RFC 9535, 1.1). It takes no memory, and time
-/// linear in the steps and in the names that they hold, times the logarithm of an object's members. Of a value with a number
-/// that is not whole less is proved: that number counts as null in these clauses.
+/// Returns the value at the location of these steps, or None where there is none (RFC 9535, 1.1). It takes no memory,
+/// and time linear in the steps and their names, times the logarithm of an object's members. For a value with a number
+/// that is not an integer less is proved: that number counts as null in these clauses.
 #[cycle(at)]
 pub fn at<'v>(value: &'v Value, place: &[Step]) -> Option<&'v Value>
     ensures value { option_map (λ v. value_tree v.now) result ≡ places.at (location_view place.now) (value_tree value.now) }
@@ -24,7 +24,7 @@ pub fn at<'v>(value: &'v Value, place: &[Step]) -> Option<&'v Value>
     }
 }
 
-/// The child that a step leads to, or None.
+/// Returns the child that a step leads to, or None.
 pub fn child<'v>(value: &'v Value, step: &Step) -> Option<&'v Value>
     ensures value { option_map (λ v. value_tree v.now) result ≡ places.child (owned_step step.now) (value_tree value.now) }
     ensures whole { IsTrue (value_is_whole value.now) → IfSome result (λ v. IsTrue (value_is_whole v.now)) }
@@ -35,9 +35,9 @@ pub fn child<'v>(value: &'v Value, step: &Step) -> Option<&'v Value>
     }
 }
 
-/// Puts a value at the location of these steps, in the place of the one there, and returns true; where nothing is there,
-/// it returns false and changes nothing, and the new value is dropped. It takes no memory, and time as `at`. Of values with
-/// a number that is not whole less is proved, as of `at`.
+/// Replaces the value at the location of these steps, and returns true. Where there is no value, it returns false,
+/// changes nothing, and drops the new value. It takes no memory, and the time of `at`. For values with a number that is
+/// not an integer less is proved, as for `at`.
 pub fn put_at(value: &mut Value, place: &[Step], new: Value) -> bool
     ensures value { value_tree value.new ≡ put (location_view place.now) (value_tree new) (value_tree value.old) }
     ensures found { result ≡ is_some (places.at (location_view place.now) (value_tree value.old)) }
@@ -47,8 +47,9 @@ pub fn put_at(value: &mut Value, place: &[Step], new: Value) -> bool
     exchange(value, place, new).is_some()
 }
 
-/// Takes the value at the location of these steps, and leaves null there; None where nothing is there, and then nothing
-/// changes. It takes no memory, and time as `at`. Of a value with a number that is not whole less is proved, as of `at`.
+/// Takes the value at the location of these steps, and leaves null there. Where there is no value, it returns None, and
+/// nothing changes. It takes no memory, and the time of `at`. For a value with a number that is not an integer less is
+/// proved, as for `at`.
 pub fn take_at(value: &mut Value, place: &[Step]) -> Option<Value>
     ensures taken { option_map value_tree result ≡ places.at (location_view place.now) (value_tree value.old) }
     ensures remaining { value_tree value.new ≡ put (location_view place.now) null (value_tree value.old) }
@@ -59,7 +60,7 @@ pub fn take_at(value: &mut Value, place: &[Step]) -> Option<Value>
     exchange(value, place, Value::Null)
 }
 
-/// Puts a value at the location of these steps, and returns the one that stood there; None where nothing is there.
+/// Replaces the value at the location of these steps, and returns the old one, or None where there was none.
 #[cycle(exchange)]
 fn exchange(value: &mut Value, steps: &[Step], new: Value) -> Option<Value>
     ensures value { value_tree value.new ≡ put (location_view steps.now) (value_tree new) (value_tree value.old) }

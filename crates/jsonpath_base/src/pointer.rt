@@ -12,9 +12,9 @@ use jsonpath_parser::errors::{JsonPathError, Parsed};
 use serde_json::Value;
 use std::alloc::{AllocError, Global};
 
-/// The JSON Pointer of the location of these steps (RFC 6901): for each step `/` and the name, `~` and `/` in it written as
-/// `~0` and `~1`, or the digits of the index. It does not tell a name of digits from an index: the document does. Time linear
-/// in the steps and in the names that they hold.
+/// Returns the JSON Pointer of the location of these steps (RFC 6901): for each step `/` and either the name, with `~0`
+/// for `~` and `~1` for `/`, or the digits of the index. A name of digits looks the same as an index; only the document
+/// tells them apart. It takes time linear in the steps and their names.
 ///
 /// # Errors
 ///
@@ -78,9 +78,10 @@ fn push_part(text: &mut String, part: &str) -> Result<(), AllocError>
     Ok(())
 }
 
-/// The location in this document that a JSON Pointer means (RFC 6901, 4): in an object a part of the text is a name, in a list an
-/// index, digits without a leading zero; what `~` stands before, if it is neither `0` nor `1`, stands as it is written. None where
-/// the text is no pointer, or leads to nothing, as `-` does in a list. Time as `at`, and linear in the text.
+/// Returns the location in this document that a JSON Pointer means (RFC 6901, 4). A part of the text is a name in an
+/// object, and an index in a list: digits without a leading zero. A `~` that is before neither `0` nor `1` means
+/// itself. Returns None where the text is no pointer, or leads to no value, as `-` does in a list. It takes the time of
+/// `at`, and time linear in the text.
 ///
 /// # Errors
 ///
@@ -110,7 +111,7 @@ pub fn location_by_pointer(alloc: Global, value: &Value, text: &str) -> Parsed<O
     }
 }
 
-/// The child that a reference token means, its step behind the others; or None.
+/// Returns the child that a reference token means, and adds its step to the others; or returns None.
 fn go_down<'v>(
     alloc: Global,
     steps: &mut Vec<Step>,
@@ -130,10 +131,10 @@ fn go_down<'v>(
     Ok(Some(below))
 }
 
-/// The step that a reference token of a JSON Pointer means in a value (RFC 6901, 4): in an object a name, `~1` in it as `/` and
-/// `~0` as `~`; in a list an index, digits without a leading zero. None for any other token of a list, as `-`, and in any other
-/// value. Whether something is at the step is not asked, so the last token of a pointer tells where a value can be added. Time
-/// linear in the token.
+/// Returns the step that a reference token of a JSON Pointer means in a value (RFC 6901, 4). In an object it is a name,
+/// with `/` for `~1` and `~` for `~0`. In a list it is an index: digits without a leading zero. Returns None for any
+/// other token in a list, such as `-`, and in any other value. It does not check that there is a value at the step, so
+/// the last token of a pointer says where a value can be added. It takes time linear in the token.
 ///
 /// # Errors
 ///
@@ -152,7 +153,7 @@ pub fn step_by_token(alloc: Global, value: &Value, token: &str) -> Parsed<Option
     }
 }
 
-/// The index whose digits these are, or None.
+/// Returns the index that these digits write, or None.
 fn index_by(part: &str) -> Option<usize>
     ensures { result ≡ index_of part.now }
 {
@@ -166,7 +167,7 @@ fn index_by(part: &str) -> Option<usize>
     }
 }
 
-/// A part of a pointer with `~1` in it as `/`, and `~0` as `~`.
+/// Returns a part of a pointer with `/` for `~1`, and `~` for `~0`.
 fn unescaped(alloc: Global, part: &str) -> Result<String, AllocError>
     ensures { IfOk result (λ name. string_bytes name ≡ unescape part.now) }
 {
@@ -182,7 +183,7 @@ fn unescaped(alloc: Global, part: &str) -> Result<String, AllocError>
     Ok(name)
 }
 
-/// What a `~` before these characters stands for, and what follows.
+/// Returns what a `~` before these characters means, and the characters after it.
 fn mark_at(behind: &str) -> (&'static str, &str)
     ensures value { unescape (126 ∷ behind.now) ≡ result.0.now ++ unescape result.1.now }
     ensures shorter { length result.1.now ≤ length behind.now }

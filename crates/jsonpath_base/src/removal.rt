@@ -1,4 +1,4 @@
-//! Removal of locations from a value, and replacement at them, all at once.
+//! Removes a set of locations from a value, or replaces the values there, all at once.
 ghost use Rattle.std.specs.Prelude.{◌≡◌, ◌<◌, ◌≤◌, ◌-◌, ◌++◌, take, drop, length, map, false, IfOk, IfErr, OnOk, OnErr, IsTrue, string_cmp};
 ghost use Rattle.std.specs.Vec.{vec_len};
 ghost use Rattle.serde_json.specs.View.{view, items_view, members_view};
@@ -22,26 +22,28 @@ use serde_json::{Map, Value};
 use std::alloc::{AllocError, Global};
 use std::mem;
 
-/// How much is added out of order, at least, before marks are put in order.
+/// The least size that is added out of order before the trie is sorted.
 const LEAST: usize = 1024;
 
-/// Locations to be removed from a value, or replaced in it. A step that several of them begin with is held once where they come
-/// in order. Where they do not, it may be held again, until a quarter of what is held was added, or a small number. Then the marks
-/// are put in order, each step once, and the sort takes room for what was added. So memory grows with the distinct steps and with
-/// their names, to about twice these at most.
+/// A set of locations to be removed from a value, or replaced in it.
+///
+/// A step with which several of them begin is stored once if they are added in order. Otherwise it may be stored again,
+/// until a quarter of the stored size, or a small number, was added. Then the trie is sorted, so that each step is
+/// stored once; the sort takes room for what was added. So memory grows with the distinct steps and their names, to
+/// about twice these at most.
 #[derive(Drop)]
 pub struct LocationSet {
     marks: LocationTrie,
-    /// The size of what was added since a location came out of order; 0 where the marks are in order.
+    /// The size that was added since a location came out of order; 0 where the trie is sorted.
     added: usize,
-    /// How much that is before they are put in order.
+    /// The size that is added before the trie is sorted.
     most: usize,
 }
 
 impl LocationSet {
     ghost use Rattle.jsonpath_base.specs.LocationSetViews.{location_set, location_count, sorted_set, sorted_count, LastBegins};
 
-    /// Of no location.
+    /// Returns the empty set.
     pub fn new(alloc: Global) -> Self
         ensures none { (l : Location) → location_set result l ≡ false }
         ensures count { location_count result ≡ 0 }
@@ -53,8 +55,8 @@ impl LocationSet {
         }
     }
 
-    /// Adds the location of these steps. It refuses by `OutOfMemory` alone, and then the removal may have lost locations. Time
-    /// linear in the steps and in their names; for many locations n log n.
+    /// Adds the location of these steps. It fails with `OutOfMemory` only, and then the set may have lost locations. It
+    /// takes time linear in the steps and their names; for many locations n log n.
     pub fn add(&mut self, alloc: Global, steps: &[StepRef<'_>]) -> Parsed<()>
         ensures added { OnOk result (HasAlso (location_set self.old) (lent_location steps.now) (location_set self.new)) }
         ensures count { OnOk result (location_count self.new ≡ counted_with (lent_location steps.now) (location_set self.old) (location_count self.old)) }
@@ -64,8 +66,9 @@ impl LocationSet {
         self.add_behind(alloc, steps, 0)
     }
 
-    /// The same of steps of which so many are the first ones of the location that was added last: as long as the marks are
-    /// not put in order, these are neither compared nor held again. Where they are other ones, nothing is known of the removal from there on.
+    /// Adds the location of these steps, of which the first `shared_len` are the first ones of the location that was
+    /// added last. These are neither compared nor stored again, unless the trie is sorted. If they differ from those,
+    /// nothing is known of the set from there on.
     pub fn add_behind(
         &mut self,
         alloc: Global,
@@ -90,8 +93,8 @@ impl LocationSet {
         Ok(())
     }
 
-    /// Puts the marks in order, each step once, where a quarter of what is held was added out of order. Returns how many of the
-    /// settled steps the marks still end with.
+    /// Sorts the trie, with each step once, if a quarter of the stored size was added out of order. Returns how many of
+    /// the shared steps are still in the last entries of the trie.
     fn joined(&mut self, alloc: Global, shared_len: usize) -> Result<usize, AllocError>
         ensures same { OnOk result (IsSameSet (location_set self.old) (location_set self.new)) }
         ensures known { (l : Location) → IfOk result (λ n. LastBegins self.old (take shared_len l) → LastBegins self.new (take n l)) }
@@ -105,8 +108,8 @@ impl LocationSet {
         Ok(0)
     }
 
-    /// The same locations, in order and counted. It refuses by `OutOfMemory` alone. Time linear in the steps that are held
-    /// where they were added in order, and else n log n.
+    /// Returns the same locations, sorted and counted. It fails with `OutOfMemory` only. It takes time linear in the
+    /// stored steps if they were added in order, and else n log n.
     pub fn ordered(self, alloc: Global) -> Parsed<SortedLocations>
         ensures set { IfOk result (λ r. sorted_set r ≡ location_set self) }
         ensures count { IfOk result (λ r. sorted_count r ≡ location_count self) }
@@ -118,7 +121,7 @@ impl LocationSet {
     }
 }
 
-/// Locations to be removed from a value, or replaced in it, in order, and how many distinct ones they are.
+/// The locations to be removed from a value, or replaced in it, sorted, and the number of distinct ones.
 #[derive(Drop)]
 pub struct SortedLocations {
     marks: LocationTrie,
@@ -129,7 +132,7 @@ pub struct SortedLocations {
 impl SortedLocations {
     ghost use Rattle.jsonpath_base.specs.LocationSetViews.{sorted_set, sorted_count};
 
-    /// These locations. It refuses by `OutOfMemory` alone.
+    /// Returns these locations, sorted. It fails with `OutOfMemory` only.
     fn at_places(alloc: Global, places: &[Vec<Step>]) -> Parsed<Self>
         ensures set { IfOk result (λ r. sorted_set r ≡ is_among (map (λ p. location_view p.items) places.now)) }
         ensures count { IfOk result (λ r. sorted_count r ≡ distinct_count (map (λ p. location_view p.items) places.now)) }
@@ -143,15 +146,15 @@ impl SortedLocations {
         removal.ordered(alloc)
     }
 
-    /// How many distinct locations there are.
+    /// Returns the number of distinct locations.
     pub fn count(&self) -> usize
         ensures { result ≡ sorted_count self.now }
     {
         self.count
     }
 
-    /// Removes the locations from the value, all at once and each by its original place. One where nothing is changes nothing;
-    /// where the root is one of them, null is left. It takes no memory.
+    /// Removes the locations from the value, all at once and each by its original place. A location without a value
+    /// changes nothing. If the root is one of them, null is left. It takes no memory.
     pub fn remove_from(&self, value: &mut Value)
         ensures removed { value_tree value.new ≡ without (sorted_set self.now) (value_tree value.old) }
         ensures whole { IsTrue (value_is_whole value.old) → IsTrue (value_is_whole value.new) }
@@ -163,9 +166,9 @@ impl SortedLocations {
         thin(value, &self.marks);
     }
 
-    /// Puts a copy of `new` at each of the locations, all at once; of those that lie inside one another the outermost is
-    /// replaced, and one where nothing is changes nothing. It refuses by `OutOfMemory` alone, and then the value is as it was:
-    /// all copies are made first, one for each location that lies inside no other.
+    /// Puts a copy of `new` at each of the locations, all at once. Of locations that are inside one another the
+    /// outermost is replaced, and one without a value changes nothing. It fails with `OutOfMemory` only, and then the
+    /// value is as it was: all copies are made first, one for each location that is inside no other.
     pub fn replace_in(&self, alloc: Global, value: &mut Value, new: &Value) -> Parsed<()>
         ensures replaced { OnOk result (value_tree value.new ≡ overwritten (sorted_set self.now) (value_tree new.now) (value_tree value.old)) }
         ensures whole { IsTrue (value_is_whole value.old) → IsTrue (value_is_whole new.now) → IsTrue (value_is_whole value.new) }
@@ -178,12 +181,12 @@ impl SortedLocations {
     }
 }
 
-/// Removes the values at these locations, all at once and each by its original place, and returns how many distinct
-/// locations there are. One where nothing is counts, and changes nothing; where the root is one of them, null is left. Of a
-/// value with a number that is not whole less is proved: that number counts as null in these clauses.
+/// Removes the values at these locations, all at once and each by its original place, and returns the number of
+/// distinct locations. A location without a value counts, and changes nothing. If the root is one of them, null is
+/// left. For a value with a number that is not an integer less is proved: that number counts as null in these clauses.
 ///
-/// Time n log n in the steps of the locations; in a list that loses elements, each element behind the first of them is moved
-/// once.
+/// It takes time n log n in the steps of the locations. In a list that loses elements, each element after the first of
+/// them is moved once.
 ///
 /// # Errors
 ///
@@ -200,16 +203,18 @@ pub fn remove_all(alloc: Global, value: &mut Value, places: &[Vec<Step>]) -> Par
     Ok(removal.count)
 }
 
-/// Puts a copy of `new` at each of these locations, all at once, and returns how many distinct locations there are. Of those that
-/// lie inside one another the outermost is replaced, and the others count; one where nothing is counts, and changes nothing.
-/// Of values with a number that is not whole less is proved: that number counts as null in these clauses.
+/// Puts a copy of `new` at each of these locations, all at once, and returns the number of distinct locations. Of
+/// locations that are inside one another the outermost is replaced, and the others count. A location without a value
+/// counts, and changes nothing. For values with a number that is not an integer less is proved: that number counts as
+/// null in these clauses.
 ///
-/// Time n log n in the steps of the locations, and the size of `new` for each location that lies inside no other; the copies
-/// stand in memory until anything is replaced.
+/// It takes time n log n in the steps of the locations, and the size of `new` for each location that is inside no
+/// other. The copies are in memory until the first value is replaced.
 ///
 /// # Errors
 ///
-/// `OutOfMemory` where memory ran out, and then the value is as it was: all is marked, and all copies are made, first.
+/// `OutOfMemory` where memory ran out, and then the value is as it was: all locations are marked, and all copies are
+/// made, first.
 pub fn replace_all(
     alloc: Global,
     value: &mut Value,
@@ -227,7 +232,7 @@ pub fn replace_all(
     Ok(removal.count)
 }
 
-/// The steps, each lent.
+/// Returns the steps, each borrowed.
 fn lent_steps<'s>(alloc: Global, steps: &'s [Step]) -> Parsed<Vec<StepRef<'s>>>
     ensures lent { IfOk result (λ v. lent_location v.items ≡ location_view steps.now) }
     ensures memory { IfErr result (λ e. e ≡ JsonPathError.OutOfMemory) }
@@ -252,7 +257,7 @@ fn thin(value: &mut Value, marks: &LocationTrie)
     }
 }
 
-/// Removes what is marked in a list: first below its elements, while each stands in its place, then the elements.
+/// Removes what is marked in a list: first below its elements, while each is in its place, then the elements.
 #[cycle(thin)]
 fn thin_items(items: &mut Vec<Value>, marks: &[(usize, LocationTrie)])
     requires { IsTrue (level_in_order nat_cmp marks.now) }
@@ -289,7 +294,7 @@ fn thin_members(members: &mut Map<String, Value>, marks: &[(String, LocationTrie
     }
 }
 
-/// Removes a member that is marked, and else what is marked below it.
+/// Removes a member if it is marked, else what is marked below it.
 #[cycle(thin)]
 fn thin_member(members: &mut Map<String, Value>, name: &String, marks: &LocationTrie)
     requires { IsTrue (in_order marks.now) }
@@ -304,8 +309,8 @@ fn thin_member(members: &mut Map<String, Value>, name: &String, marks: &Location
     }
 }
 
-/// Removes the elements that the marks hold. No element is looked up: the marks are gone through in their order, and each
-/// run of elements between two of them is moved by itself.
+/// Removes the marked elements. No element is looked up: the marks are visited in their order, and each run of elements
+/// between two of them is moved by itself.
 fn drop_marked(items: &mut Vec<Value>, marks: &[(usize, LocationTrie)])
     requires { IsTrue (level_in_order nat_cmp marks.now) }
     ensures { items_view items.new.items ≡ sieved marks.now 0 (items_view items.old.items) }
@@ -324,7 +329,7 @@ fn drop_marked(items: &mut Vec<Value>, marks: &[(usize, LocationTrie)])
     items.truncate(length - gone);
 }
 
-/// Moves the elements from `start` up to `end` by this many places to the front, where they take the places of others.
+/// Moves the elements from `start` up to `end` to the front by this many places, over others.
 fn move_down(items: &mut Vec<Value>, places: usize, start: usize, end: usize)
     requires { (places ≤ start) × (start ≤ end) × (end ≤ vec_len items.old) }
     ensures moved { take (end - places) items.new.items ++ drop end items.new.items ≡ take (start - places) items.old.items ++ drop start items.old.items }

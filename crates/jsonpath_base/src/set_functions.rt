@@ -1,4 +1,4 @@
-//! The functions of sets that a filter can ask of values, an extension of RFC 9535, 2.4.
+//! The set functions of a filter, an extension of RFC 9535, 2.4.
 ghost use Rattle.std.specs.Prelude.{◌≡◌, IsTrue, IfSome, All, Bool, map, option_map};
 ghost use Rattle.jsonpath_base.specs.Prelude.{as_list, is_in, list_all, list_any, same, Tree, value_is_whole, value_tree};
 ghost use Rattle.jsonpath_base.specs.SetFunctions.{set_truth};
@@ -6,21 +6,21 @@ ghost use Rattle.jsonpath_base.specs.SetFunctions.{set_truth};
 use crate::equality::same;
 use serde_json::Value;
 
-/// What the functions of sets ask of a value. A value that is whole has one tree.
+/// The values that the set functions take. A value that is whole has one tree.
 pub trait SetValue: Sized {
     /// The tree of a value.
     ghost tree: { Self → Tree };
 
-    /// Whether it is one.
+    /// Whether a value is whole.
     ghost is_whole: { Self → Bool };
 
-    /// The elements of a list.
+    /// Returns the elements of a list.
     fn elements(&self) -> Option<&Vec<Self>>
         requires { IsTrue (is_whole self.now) }
         ensures value { option_map (λ v. map tree v.now.items) result ≡ as_list (tree self.now) }
         ensures whole { IfSome result (λ v. All (λ x. IsTrue (is_whole x)) v.now.items) };
 
-    /// Whether two values are the same (RFC 9535, 2.3.5.2.2).
+    /// Returns whether two values are the same (RFC 9535, 2.3.5.2.2).
     fn is_same(&self, other: &Self) -> bool
         requires left { IsTrue (is_whole self.now) }
         requires right { IsTrue (is_whole other.now) }
@@ -41,7 +41,7 @@ impl SetValue for Value {
     }
 }
 
-/// What [`set_truth`] says of two values of `serde_json`.
+/// Returns what [`set_truth`] returns for two values of `serde_json`.
 pub fn set_function(name: &str, left: &Value, right: &Value) -> Option<bool>
     requires left_whole { IsTrue (value_is_whole left.now) }
     requires right_whole { IsTrue (value_is_whole right.now) }
@@ -50,11 +50,11 @@ pub fn set_function(name: &str, left: &Value, right: &Value) -> Option<bool>
     set_truth(name, left, right)
 }
 
-/// What the function of this name says of two values: `in` and `nin`, whether the second, a list, holds the first or
-/// does not; `none_of`, `any_of` and `subset_of`, of two lists, whether no element, some element or every element of
-/// the first is in the second. None for other names and other kinds. Takes no memory of its own. Each comparison is one
-/// of [`SetValue::is_same`]: `in` and `nin` make at most one for each element of the list, the others at most as many as
-/// the product of the two lengths.
+/// Returns what the function of this name returns for two values. For `in` and `nin` that is whether the second, a
+/// list, holds the first, or does not. For `none_of`, `any_of` and `subset_of`, of two lists, it is whether no element,
+/// some element or every element of the first is in the second. Returns None for other names and other kinds. It takes
+/// no memory of its own. Each comparison is one call of [`SetValue::is_same`]: `in` and `nin` make at most one for each
+/// element of the list, the others at most the product of the two lengths.
 pub fn set_truth<T: SetValue>(name: &str, left: &T, right: &T) -> Option<bool>
     requires left_whole { IsTrue (T.is_whole left.now) }
     requires right_whole { IsTrue (T.is_whole right.now) }
@@ -71,7 +71,7 @@ pub fn set_truth<T: SetValue>(name: &str, left: &T, right: &T) -> Option<bool>
     }
 }
 
-/// Whether a list holds something that is the same.
+/// Returns whether a list holds a value that is the same.
 fn is_in<T: SetValue>(value: &T, list: &Vec<T>) -> bool
     requires value_whole { IsTrue (T.is_whole value.now) }
     requires list_whole { All (λ v. IsTrue (T.is_whole v)) list.now.items }
@@ -85,7 +85,7 @@ fn is_in<T: SetValue>(value: &T, list: &Vec<T>) -> bool
     false
 }
 
-/// Whether some element of the first list is in the second.
+/// Returns whether some element of the first list is in the second.
 fn any_of<T: SetValue>(left: &Vec<T>, right: &Vec<T>) -> bool
     requires left_whole { All (λ v. IsTrue (T.is_whole v)) left.now.items }
     requires right_whole { All (λ v. IsTrue (T.is_whole v)) right.now.items }
@@ -99,7 +99,7 @@ fn any_of<T: SetValue>(left: &Vec<T>, right: &Vec<T>) -> bool
     false
 }
 
-/// Whether every element of the first list is in the second.
+/// Returns whether every element of the first list is in the second.
 fn subset_of<T: SetValue>(left: &Vec<T>, right: &Vec<T>) -> bool
     requires left_whole { All (λ v. IsTrue (T.is_whole v)) left.now.items }
     requires right_whole { All (λ v. IsTrue (T.is_whole v)) right.now.items }

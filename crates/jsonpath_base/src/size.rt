@@ -1,11 +1,12 @@
-//! The size of steps and of marks, which says how much memory they take: one for each step, and for each 16 bytes of its name.
+//! The size of steps and of tries, which says how much memory they take: one for each step, and one for every 16 bytes
+//! of its name.
 use crate::location_trie::LocationTrie;
 use crate::step::StepRef;
 
-/// How many bytes of a name count as much as a step.
+/// The number of bytes of a name that count as much as a step.
 const BYTES: usize = 16;
 
-/// The size of these steps, without so many first ones.
+/// Returns the size of these steps, without the first `shared_len`.
 pub fn steps_size(steps: &[StepRef<'_>], shared_len: usize) -> usize {
     let mut size: usize = 0;
     for step in steps.iter().skip(shared_len) {
@@ -14,7 +15,7 @@ pub fn steps_size(steps: &[StepRef<'_>], shared_len: usize) -> usize {
     size
 }
 
-/// The size of a step.
+/// Returns the size of a step.
 fn step_size(step: StepRef<'_>) -> usize {
     match step {
         StepRef::Name(name) => (name.len() / BYTES).saturating_add(1),
@@ -22,14 +23,14 @@ fn step_size(step: StepRef<'_>) -> usize {
     }
 }
 
-/// The size of the steps that marks hold, and one.
+/// Returns the size of the steps in a trie, plus one.
 #[cycle(size)]
 pub fn marks_size(marks: &LocationTrie) -> usize {
     let below = members_size(&marks.names).saturating_add(elements_size(&marks.indexes));
     below.saturating_add(1)
 }
 
-/// The size of these names and of all below them.
+/// Returns the size of these names and of all below them.
 #[cycle(size)]
 fn members_size(below: &[(String, LocationTrie)]) -> usize {
     let mut size: usize = 0;
@@ -40,7 +41,7 @@ fn members_size(below: &[(String, LocationTrie)]) -> usize {
     size
 }
 
-/// The size of these indexes and of all below them.
+/// Returns the size of these indexes and of all below them.
 #[cycle(size)]
 fn elements_size(below: &[(usize, LocationTrie)]) -> usize {
     let mut size: usize = 0;

@@ -4,8 +4,8 @@ ghost use Rattle.jsonpath_base.specs.Prelude.{has_distinct_names, has_whole_numb
 
 use serde_json::{Map, Value};
 
-/// Whether every number in a value is a whole number of 64 bits. A value that passes is one tree: each of its
-/// objects has a name once, since its map keeps them in order.
+/// Returns whether every number in a value is an integer of 64 bits. Such a value has one tree: each of its objects has
+/// a name once, because its map keeps them sorted.
 #[cycle(whole)]
 #[inline(always)]
 pub fn whole(value: &Value) -> bool

@@ -1,4 +1,4 @@
--- What a deletion leaves, and what it answers.
+-- What a deletion leaves, and what it returns.
 use Rattle.std.specs.Prelude.{◌≡◌, ℕ, List, [], ◌∷◌, is_some, if◌then◌else◌}
 use Rattle.jsonpath_parser.specs.Location.{Location}
 use Rattle.jsonpath_parser.specs.tree.Syntax.{Query}
@@ -9,7 +9,7 @@ use Rattle.jsonpath_rust.specs.Calls.{OfText}
 use Rattle.jsonpath_base.specs.documents.Document.{Document}
 use Rattle.jsonpath_base.specs.documents.Meaning.{selected}
 
--- The tree left is the document without all locations that the query selects, removed at once; and so many distinct ones there are.
+-- The tree left is the document without all locations that the query selects, removed at once; the count is the number of distinct ones.
 pub record IsDeletion (q : Query) (doc : Document) (left : Tree) (count : ℕ) : Type 0 where
   pub removed : left ≡ without (is_among (selected q doc)) doc.root
   pub counted : count ≡ distinct_count (selected q doc)
@@ -18,15 +18,15 @@ pub record IsDeletion (q : Query) (doc : Document) (left : Tree) (count : ℕ) :
 abbrev pub Deletion : Tree → Document → Query → ℕ → Type 0
 Deletion left doc q count = IsDeletion q doc left count
 
--- The text derives a query, at this depth, and what that selects is deleted.
+-- The text derives a query, at this depth, and what that query selects is deleted.
 abbrev pub Deletes : ℕ → List ℕ → Document → Tree → ℕ → Type 0
 Deletes depth text doc left count = OfText depth text doc (Deletion left) count
 
--- 1 where something is at the location, else 0
+-- 1 if there is a value at the location, else 0
 abbrev pub count_at : Location → Tree → ℕ
 count_at l t = if is_some (at l t) then 1 else 0
 
--- The tree left is the tree before without this location; so it is as it was where nothing is there.
+-- The tree left is the tree before without this location, so it is as it was if there is no value.
 pub record IsDeletionAt (l : Location) (before left : Tree) (count : ℕ) : Type 0 where
   pub removed : left ≡ without (is_among (l ∷ [])) before
   pub counted : count ≡ count_at l before
@@ -35,6 +35,6 @@ pub record IsDeletionAt (l : Location) (before left : Tree) (count : ℕ) : Type
 abbrev pub DeletionAt : Tree → Document → List ℕ → Location → ℕ → Type 0
 DeletionAt left doc text l count = IsDeletionAt l doc.root left count
 
--- A deletion by a query that selects nothing leaves the document's tree, and its count is 0.
+-- A deletion by a query that selects nothing leaves the document's tree as it was, and its count is 0.
 abbrev pub NothingSelectedDeletesNothing : Type 0
 NothingSelectedDeletesNothing = (q : Query) (doc : Document) (left : Tree) (count : ℕ) → selected q doc ≡ [] → IsDeletion q doc left count → (left ≡ doc.root) × (count ≡ 0)

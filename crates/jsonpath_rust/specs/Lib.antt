@@ -30,7 +30,7 @@ pub use Rattle.jsonpath_base.specs.documents.State
 pub use Rattle.jsonpath_rust.specs.states.Process
 pub use Rattle.jsonpath_rust.specs.states.Asking
 pub use Rattle.jsonpath_rust.specs.states.Processed
--- What its public contracts cite of the crates below it, so that a caller names it here and lists this crate alone.
+-- What the public contracts cite of the crates below, so that a caller names it here and lists this crate alone.
 pub use Rattle.jsonpath_parser.specs.Errors
 pub use Rattle.jsonpath_parser.specs.Equality
 pub use Rattle.jsonpath_parser.specs.Location
@@ -70,6 +70,6 @@ pub use Rattle.jsonpath_parser.specs.Slice
 pub use Rattle.jsonpath_parser.specs.SliceSteps
 pub use Rattle.jsonpath_parser.specs.Texts
 pub use Rattle.jsonpath_base.specs.declared.step.Step
--- Files whose names stand in two crates, by the crate.
+-- Files whose names are in two crates, by the crate.
 pub use Rattle.jsonpath_parser.specs as parser
 pub use Rattle.jsonpath_base.specs as base

@@ -1,4 +1,4 @@
--- What contracts and proofs name, by room, for one import a room. Nothing is declared here.
+-- The names that contracts and proofs import, one file for each part of the crate. Nothing is declared here.
 pub mod Documents
 pub mod Selection
 pub mod States

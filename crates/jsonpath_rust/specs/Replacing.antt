@@ -1,4 +1,4 @@
--- What a replacement leaves, and what it answers.
+-- What a replacement leaves, and what it returns.
 use Rattle.std.specs.Prelude.{◌≡◌, ℕ, List}
 use Rattle.jsonpath_parser.specs.Location.{Location}
 use Rattle.jsonpath_parser.specs.tree.Syntax.{Query}
@@ -10,7 +10,7 @@ use Rattle.jsonpath_rust.specs.Deleting.{count_at}
 use Rattle.jsonpath_base.specs.documents.Document.{Document}
 use Rattle.jsonpath_base.specs.documents.Meaning.{selected}
 
--- The tree left is the document with `u` at all locations that the query selects, put at once; and so many distinct ones there are.
+-- The tree left is the document with `u` at all locations that the query selects, put at once; the count is the number of distinct ones.
 pub record IsReplacement (q : Query) (u : Tree) (doc : Document) (left : Tree) (count : ℕ) : Type 0 where
   pub replaced : left ≡ overwritten (is_among (selected q doc)) u doc.root
   pub counted : count ≡ distinct_count (selected q doc)
@@ -19,7 +19,7 @@ pub record IsReplacement (q : Query) (u : Tree) (doc : Document) (left : Tree) (
 abbrev pub Replacement : Tree → Tree → Document → Query → ℕ → Type 0
 Replacement u left doc q count = IsReplacement q u doc left count
 
--- The tree left is the tree before with `u` at this location; so it is as it was where nothing is there.
+-- The tree left is the tree before with `u` at this location, so it is as it was if there is no value.
 pub record IsReplacementAt (l : Location) (u before left : Tree) (count : ℕ) : Type 0 where
   pub replaced : left ≡ put l u before
   pub counted : count ≡ count_at l before

@@ -1,4 +1,4 @@
--- What a document is and what a query means of it, as jsonpath_base has it.
+-- What a document is and what a query means for it, as defined in jsonpath_base.
 pub mod Whole
 pub mod inner
 pub use Rattle.jsonpath_base.specs.documents.Document

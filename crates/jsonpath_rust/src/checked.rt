@@ -1,5 +1,5 @@
-//! Documents that were checked once. A [`Whole`] or a [`WholeRef`] is made by the check, and from then on nothing about
-//! it has to be checked or proved: its queries require nothing.
+//! Documents that were checked once. The check makes a [`Whole`] or a [`WholeRef`]. After that nothing about the
+//! document has to be checked or proved: its queries require nothing.
 ghost use Rattle.std.specs.Prelude.{◌≡◌, IfErr, IfOk, IsFalse, IsTrue};
 
 use crate::documents::queryable::Queryable;
@@ -13,7 +13,7 @@ mod whole_ref;
 pub use crate::checked::read::ReadError;
 
 impl<T: Queryable> Whole<T> {
-    /// The value, if it is whole; else it comes back. The check visits the whole value.
+    /// Returns the value as a whole one, or returns it as it is if it is not whole. The check visits the whole value.
     pub fn new(value: T) -> Result<Self, T>
         ensures same { IfOk result (λ w. w.value ≡ value) }
         ensures not_whole { IfErr result (λ v. (v ≡ value) × IsFalse (T.is_whole value)) }
@@ -25,7 +25,7 @@ impl<T: Queryable> Whole<T> {
         }
     }
 
-    /// A value that is known to be whole.
+    /// Returns a value that is known to be whole, without a check.
     pub fn of(value: T) -> Self
         requires { IsTrue (T.is_whole value) }
         ensures { result.value ≡ value }
@@ -33,7 +33,7 @@ impl<T: Queryable> Whole<T> {
         Whole { value }
     }
 
-    /// The value, borrowed.
+    /// Borrows the value.
     pub fn get(&self) -> &T
         ensures same { result.now ≡ self.now.value }
         ensures whole { IsTrue (T.is_whole result.now) }
@@ -41,7 +41,7 @@ impl<T: Queryable> Whole<T> {
         &self.value
     }
 
-    /// The value.
+    /// Returns the value.
     pub fn into_inner(self) -> T
         ensures same { result ≡ self.value }
         ensures whole { IsTrue (T.is_whole result) }
@@ -49,7 +49,7 @@ impl<T: Queryable> Whole<T> {
         self.value
     }
 
-    /// The same, borrowed, as a value that is whole.
+    /// Borrows the value as one that is whole.
     #[inline(always)]
     pub fn as_ref(&self) -> WholeRef<'_, T>
         ensures { result.value.now ≡ self.now.value }

@@ -1,6 +1,6 @@
-//! What the two evaluators, `selection` and `states`, hold of a document: `whole` has the values that are whole,
-//! `nodes` and `args` lists of them, `filter_value` and `comparison` the values inside a filter. What a document is stands
-//! in `jsonpath_base`.
+//! The values that the two evaluators, `selection` and `states`, take from a document: whole values (`whole`), lists of
+//! them (`nodes`, `args`), and the values inside a filter (`filter_value`, `comparison`). Documents themselves are
+//! defined in `jsonpath_base`.
 pub mod args;
 pub mod comparison;
 pub mod filter_value;

@@ -10,11 +10,11 @@ use jsonpath_parser::MAX_NESTING_DEPTH;
 use serde_json::Value;
 use std::alloc::Global;
 
-/// A document that can be asked.
+/// A document with methods for queries.
 ///
-/// Each call selects the nodes of a query text, in order (RFC 9535, 2.1.2), and refuses as [`js_path`] does.
+/// Each call selects the nodes of a query text, in order (RFC 9535, 2.1.2), and fails as [`js_path`] does.
 pub trait JsonPath: Queryable {
-    /// The nodes that a query text selects: their values and their Normalized Paths.
+    /// Returns the nodes that a query text selects: their values and their Normalized Paths.
     fn query_with_path(&self, alloc: Global, path: &str) -> Queried<Vec<QueryRef<'_, Self>>>
         requires { IsTrue (Self.is_whole self.now) }
         ensures { ByText MAX_NESTING_DEPTH path.now (document_of Self.tree Self.custom self.now) (AreNodes Self.Queryable.own) (IsNodeThere Self.Queryable.own) result }
@@ -22,7 +22,7 @@ pub trait JsonPath: Queryable {
         js_path(alloc, path, self)
     }
 
-    /// The Normalized Paths of the nodes that a query text selects.
+    /// Returns the Normalized Paths of the nodes that a query text selects.
     fn query_only_path(&self, alloc: Global, path: &str) -> Queried<Vec<QueryPath>>
         requires { IsTrue (Self.is_whole self.now) }
         ensures { ByText MAX_NESTING_DEPTH path.now (document_of Self.tree Self.custom self.now) ArePaths IsPathThere result }
@@ -30,7 +30,7 @@ pub trait JsonPath: Queryable {
         js_path_path(alloc, path, self)
     }
 
-    /// The values of the nodes that a query text selects. No path is made.
+    /// Returns the values of the nodes that a query text selects. It makes no paths.
     fn query(&self, alloc: Global, path: &str) -> Queried<Vec<&Self>>
         requires { IsTrue (Self.is_whole self.now) }
         ensures { ByText MAX_NESTING_DEPTH path.now (document_of Self.tree Self.custom self.now) (AreValues Self.Queryable.own) (IsValueThere Self.Queryable.own) result }

@@ -1,8 +1,9 @@
-//! JSONPath (RFC 9535) over documents of any type.
+//! JSONPath (RFC 9535) for documents of any type.
 //!
-//! What a document is, and what a query means of it, stands in `jsonpath_base`. Two evaluators work that out: `selection`
-//! walks to the nodes of a query, and `states` evaluates each part of a query by itself; `documents` has what they hold.
-//! `query` and `json_path` have the calls, and `checked` those of a document that was checked once.
+//! `jsonpath_base` says what a document is, and what a query means for it. There are two evaluators: `selection` walks
+//! to the nodes of a query, and `states` evaluates each part of a query by itself. `documents` has the values that both
+//! use. `query` and `json_path` have the calls on any document, and `checked` those on a document that was checked
+//! once.
 #![tactic(auto)]
 
 mod checked;

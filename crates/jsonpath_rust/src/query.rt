@@ -33,14 +33,14 @@ use jsonpath_parser::model::JpQuery;
 use jsonpath_parser::{MAX_NESTING_DEPTH, is_typed};
 use std::alloc::Global;
 
-/// The nodes that a query text selects in a document, in order (RFC 9535, 2.1.2): their values and their Normalized
-/// Paths.
+/// Returns the nodes that a query text selects in a document, in order (RFC 9535, 2.1.2): their values and their
+/// Normalized Paths.
 ///
 /// # Errors
 ///
-/// - those of `parse_json_path`, where the text is no query.
-/// - `InvalidJsonPath` where `regex` refuses a pattern for its size: one that stands in the query, in a call of `match`
-///   or `search`, and whose value at some node of the document is a text that `regex` reads.
+/// - Those of `parse_json_path`, where the text is no query.
+/// - `InvalidJsonPath` where `regex` refuses a pattern for its size: one in the query, in a call of `match` or
+///   `search`, whose value at some node of the document is a text that `regex` reads.
 /// - `OutOfMemory` where memory ran out.
 pub fn js_path<'a, T: Queryable>(
     alloc: Global,
@@ -53,11 +53,11 @@ pub fn js_path<'a, T: Queryable>(
     js_path_within(alloc, path, MAX_NESTING_DEPTH, value)
 }
 
-/// The nodes that a query text selects in a document, as [`js_path`], which is this at a depth of 128.
+/// Returns the nodes that a query text selects in a document. [`js_path`] is this with a depth of 128.
 ///
 /// # Errors
 ///
-/// As those of [`js_path`], but `MaxNestingDepthExceeded(depth)` where more than `depth` brackets stand open.
+/// Those of [`js_path`], but `MaxNestingDepthExceeded(depth)` where more than `depth` brackets are open at a time.
 pub fn js_path_within<'a, T: Queryable>(
     alloc: Global,
     path: &str,
@@ -71,7 +71,7 @@ pub fn js_path_within<'a, T: Queryable>(
     query.runner(alloc).nodes(alloc, WholeRef { value })
 }
 
-/// The values of the nodes that a query text selects in a document, in order. No path is made.
+/// Returns the values of the nodes that a query text selects in a document, in order. It makes no paths.
 ///
 /// # Errors
 ///
@@ -88,7 +88,7 @@ pub fn js_path_vals<'a, T: Queryable>(
     query.runner(alloc).values(alloc, WholeRef { value })
 }
 
-/// The Normalized Paths of the nodes that a query text selects in a document, in order.
+/// Returns the Normalized Paths of the nodes that a query text selects in a document, in order.
 ///
 /// # Errors
 ///
@@ -101,20 +101,21 @@ pub fn js_path_path<T: Queryable>(alloc: Global, path: &str, value: &T) -> Queri
     query.runner(alloc).paths(alloc, WholeRef { value })
 }
 
-/// The nodes that a query selects in a document, in order (RFC 9535, 2.1.2): their values and their Normalized Paths.
+/// Returns the nodes that a query selects in a document, in order (RFC 9535, 2.1.2): their values and their Normalized
+/// Paths.
 ///
-/// That holds for each tree that [`is_typed`], with any index and any slice; a tree that was read from a text is one. A
-/// tree made by hand may be refused by the typing of RFC 9535, 2.4.3, as one with `length(@.*)`, where `length` is
-/// given nodes in place of a value. It selects nothing by the RFC; here it is asked all the same, and
-/// [`Query::process`] gives that `length` the number of the nodes. Of every tree the nodes are those of
-/// [`Query::process`] from [`State::root`](state::State::root), which on a typed one are those that it selects
+/// That is proved for each tree that [`is_typed`], with any index and any slice; every tree that was read from a text
+/// is one. A tree made by hand may be ill-typed (RFC 9535, 2.4.3), such as one with `length(@.*)`, where `length` gets
+/// nodes in place of a value. By the RFC such a tree is no query and selects nothing. Here it is evaluated all the
+/// same, and for [`Query::process`] that `length` is the number of the nodes. For every tree the nodes are those of
+/// [`Query::process`] from [`State::root`](state::State::root), which for a typed tree are those that it selects
 /// ([`laws::process_gives_the_nodelist`]).
 ///
 /// # Errors
 ///
-/// - `InvalidJsonPath` where `regex` refuses a pattern for its size: one that stands in the query, in a call of `match`
-///   or `search`, and whose value at some node of the document is a text that `regex` reads. Of a tree that is not
-///   typed, as [`Query::process`] refuses it.
+/// - `InvalidJsonPath` where `regex` refuses a pattern for its size: one in the query, in a call of `match` or
+///   `search`, whose value at some node of the document is a text that `regex` reads. For a tree that is not typed, as
+///   in [`Query::process`].
 /// - `OutOfMemory` where memory ran out.
 pub fn js_path_process<'a, T: Queryable>(
     alloc: Global,
@@ -141,7 +142,8 @@ pub fn js_path_process<'a, T: Queryable>(
     }
 }
 
-/// The values of the nodes that [`js_path_process`] returns, in order. Of a tree that [`is_typed`] no path is made.
+/// Returns the values of the nodes that [`js_path_process`] returns, in order. For a tree that [`is_typed`] it makes no
+/// paths.
 ///
 /// # Errors
 ///

@@ -1,11 +1,17 @@
-//! The walk: the nodes of a query, met depth-first in the order of its nodelist (RFC 9535, 2.1.2). What a query means
-//! stands in `documents`.
+//! The evaluator: it walks a document depth-first, and meets the nodes of a query in the order of the nodelist (RFC
+//! 9535, 2.1.2). The meaning of a query is defined in `documents`.
 //!
-//! A query is compiled to a plan (`plan`), once. The walk (`walk`, `children`) goes by the plan; inside filters
-//! (`filter`, `call`) it works out their parts (`part`): it looks up names and indexes (`lookup`, `sides`, `counting`,
-//! `direct`), walks from the node at hand, or takes what is kept of the root (`cache`, `keeping`, `early`) and of
-//! patterns (`engine` of `jsonpath_base`). The nodes go to a sink (`sink`) with the way that leads to them (`CurrentPath`
-//! there).
+//! The modules, in the order in which data flows:
+//!
+//! - `prepared` holds a query with its plan and its patterns, to be run on many documents.
+//! - `plan` says what a walk does at a node. A query is compiled to it once.
+//! - `runner` runs a prepared query on one document after another, and `condition` evaluates a filter at the root.
+//! - `limits` says how much work a call may take, and counts what is left. `cost` says what values cost.
+//! - `walk` goes through the document by the plan, and holds the current path.
+//! - `filter` evaluates the filters that the walk meets, and `call` their function calls and expressions.
+//! - `constants` evaluates the parts of filters that do not depend on the current node, and caches their results for
+//!   one call.
+//! - `sink` takes the nodes that the walk selects.
 mod call;
 mod condition;
 mod constants;

@@ -1,5 +1,4 @@
-//! States, and what each part of a query returns on any of them: an evaluator by itself, which takes nothing of the
-//! walk.
+//! The evaluator of states: it evaluates each part of a query on any state, and uses nothing of the walk.
 mod evaluate;
 mod held;
 mod process;
@@ -9,7 +8,7 @@ pub mod selector;
 pub use crate::states::process::{Query, apply};
 pub use crate::states::processed::{processed_nodes, processed_values};
 
-/// What a state of an evaluation holds.
+/// The state of an evaluation, and its data.
 pub mod state {
     pub use jsonpath_base::documents::state::{Data, Pointer, State};
 }

@@ -1,4 +1,4 @@
--- What contracts and proofs name of the crates below and of documents. Nothing is declared here.
+-- The names of the crates below and of documents, for contracts and proofs. Nothing is declared here.
 pub use Rattle.std.specs.Bool.{beq}
 pub use Rattle.std.specs.Borrow.{Bor, sem}
 pub use Rattle.std.specs.Cmp.Lexicographic.{pointwise, slice_cmp}

@@ -1,4 +1,4 @@
--- What a query answers.
+-- What a query returns.
 use Rattle.std.specs.Prelude.{◌≡◌, ℕ, List, All, IsTrue, map, length, Some, option_to_list, string_bytes, String, Vec}
 use Rattle.std.specs.Borrow.{Bor}
 use Rattle.std.specs.List.{AllZip}
@@ -15,7 +15,7 @@ use Rattle.jsonpath_base.specs.declared.documents.node.QueryRef.{QueryRef}
 use Rattle.jsonpath_base.specs.declared.documents.queryable.Queryable.{Ghosts}
 use Rattle.std.specs.declared.alloc.Global.{Global}
 
--- the path of each answered node, and the tree of its value
+-- the path of each returned node, and the tree of its value
 abbrev pub shown : {A : Type 0} → (A → Tree) → List (QueryRef A) → List (List ℕ × Tree)
 shown tree refs = map (λ r. (string_bytes r.path, tree r.val.now)) refs
 
@@ -34,11 +34,11 @@ IsValueAt doc l t = at l doc.root ≡ Some t
 abbrev pub IsNodeAt : Document → Location → List ℕ × Tree → Type 0
 IsNodeAt doc l shown = IsPathAt doc l shown.0 × IsValueAt doc l shown.1
 
--- what is shown of the node at the location, under this path: one node, or none where nothing is there
+-- the path and the tree of the node at the location: one node, or none if there is no value
 abbrev pub node_there : Document → Location → List ℕ → List (List ℕ × Tree)
 node_there doc l path = map (λ t. (path, t)) (option_to_list (at l doc.root))
 
--- ---- what a call returns of a query, in order; `r` is what the type of the document is
+-- ---- what a call returns for a query, in order; `r` is what the type of the document is
 
 pub record AreNodes {A : Type 0} (r : Ghosts A) (doc : Document) (q : Query) (v : Vec (QueryRef A) Global) : Type 0 where
   pub nodes : AllZip (IsNodeAt doc) (selected q doc) (shown r.tree v.items)
@@ -54,7 +54,7 @@ ArePaths doc q v = AllZip (IsPathAt doc) (selected q doc) (paths_of v.items)
 abbrev pub AreLocations : Document → Query → Vec (Vec Step Global) Global → Type 0
 AreLocations doc q v = map (λ l. location_view l.items) v.items ≡ selected q doc
 
--- ---- of the one location whose Normalized Path the text is
+-- ---- for the one location whose Normalized Path the text is
 
 abbrev pub IsNodeThere : {A : Type 0} → Ghosts A → Document → List ℕ → Location → Vec (QueryRef A) Global → Type 0
 IsNodeThere r doc text l v = shown r.tree v.items ≡ node_there doc l text
@@ -65,7 +65,7 @@ IsValueThere r doc text l v = map (λ x. r.tree x.now) v.items ≡ option_to_lis
 abbrev pub IsPathThere : Document → List ℕ → Location → Vec (String Global) Global → Type 0
 IsPathThere doc text l v = paths_of v.items ≡ map (λ t. text) (option_to_list (at l doc.root))
 
--- Where a list has what is shown of each of these locations, as of those that a query selects, it has as many items: nodes, values or paths.
+-- A list with an item for each of these locations, such as those that a query selects, has as many items: nodes, values or paths.
 pub record AsManyAreListed {A : Type 0} (tree : A → Tree) : Type 0 where
   pub nodes : (doc : Document) (ls : List Location) (refs : List (QueryRef A)) → AllZip (IsNodeAt doc) ls (shown tree refs) → length refs ≡ length ls
   pub values : (doc : Document) (ls : List Location) (values : List (Bor A)) → AllZip (IsValueAt doc) ls (map (λ v. tree v.now) values) → length values ≡ length ls

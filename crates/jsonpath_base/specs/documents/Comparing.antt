@@ -1,4 +1,4 @@
--- How values compare (RFC 9535, 2.3.5.2.2). None stands where there is no value.
+-- The comparison of values (RFC 9535, 2.3.5.2.2). None means that there is no value.
 use Rattle.std.specs.Prelude.{Bool, true, false, not, ◌||◌, Option, Some, None, chars}
 use Rattle.std.specs.Int.RustNames.{int_lt}
 use Rattle.jsonpath_parser.specs.tree.Syntax as syntax

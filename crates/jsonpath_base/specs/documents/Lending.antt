@@ -1,4 +1,4 @@
--- What becomes of a value once a loan of what a reference means ends.
+-- What becomes of a value once the borrow of what a reference means ends.
 use Rattle.std.specs.Prelude.{◌≡◌, List, ℕ, Option, None, Result, Ok, Err, true}
 use Rattle.std.specs.Option.{OnSome}
 use Rattle.std.specs.Borrow.{LendsSo, MutBor, Fml}
@@ -9,11 +9,11 @@ use Rattle.jsonpath_base.specs.Values.{value_tree}
 use Rattle.jsonpath_base.specs.documents.Document.{value_document}
 use Rattle.jsonpath_base.specs.documents.Referring.{IsReplaced}
 
--- the reference in an answer, if one is there
+-- the reference in a result, if there is one
 abbrev pub lent_in : Result (Option (MutBor Value)) JsonPathError → Option (MutBor Value)
 lent_in (Ok o) = o
 lent_in (Err e) = None
 
--- s ends with what is behind r at the end in the place of what stood at the location that the text means, and as it was at `None`
+-- s ends with what r points to at the end in the place of what was at the location that the text means, and as it was for `None`
 abbrev pub LendsReferred : List ℕ → MutBor Value → Option (MutBor Value) → Fml
 LendsReferred text s r = LendsSo the_row the_row s r (λ n w. OnSome r (IsReplaced text (value_document s.now) (value_tree w) true (value_tree n))) (λ n. n ≡ s.now)

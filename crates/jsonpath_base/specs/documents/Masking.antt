@@ -1,4 +1,4 @@
--- What masking tells of a document: what queries without a filter select is masked so that nothing is told of what stood there.
+-- What masking reveals of a document: what queries without a filter select is masked so that nothing is revealed of what was there.
 use Rattle.std.specs.Prelude.{◌≡◌, ℕ, List, [], ◌∷◌, Bool, true, false, ◌&&◌, IsTrue, IsSome, IfSome, is_some}
 use Rattle.std.specs.List.{flat_map, list_all}
 use Rattle.jsonpath_parser.specs.Location.{name, Location}
@@ -31,23 +31,23 @@ abbrev pub has_no_filter : Query → Bool
 has_no_filter no_segments = true
 has_no_filter (segment g gs) = segment_has_no_filter g && has_no_filter gs
 
--- ---- what masking tells
+-- ---- what masking reveals
 
 -- the locations that the queries select in a document, those of the first query first
 abbrev pub all_selected : List Query → Document → List Location
 all_selected qs doc = flat_map (λ q. selected q doc) qs
 
--- The two are one tree but for what stands at the locations and below them: with null there they are the same.
+-- The two are one tree except for what is at the locations and below them: with null there they are the same.
 abbrev pub AgreeBut : List Location → Tree → Tree → Type 0
 AgreeBut ls t other = overwritten (is_among ls) null t ≡ overwritten (is_among ls) null other
 
--- Documents that agree but for what a query without a filter selects in one of them are one document once that is masked in each: the result tells
--- nothing of what stood there.
+-- Documents that differ only in what a query without a filter selects in one of them are the same once that is masked in each: the result reveals
+-- nothing of what was there.
 abbrev pub MaskingTellsNothing : Type 0
 MaskingTellsNothing = (q : Query) (u : Tree) (d e : Document) → IsTrue (has_no_filter q) → AgreeBut (selected q d) d.root e.root
     → overwritten (is_among (selected q d)) u d.root ≡ overwritten (is_among (selected q e)) u e.root
 
--- The same where what several queries select is masked at once.
+-- The same if what several queries select is masked at once.
 abbrev pub MaskingAllTellsNothing : Type 0
 MaskingAllTellsNothing = (qs : List Query) (u : Tree) (d e : Document) → IsTrue (list_all has_no_filter qs) → AgreeBut (all_selected qs d) d.root e.root
     → overwritten (is_among (all_selected qs d)) u d.root ≡ overwritten (is_among (all_selected qs e)) u e.root
@@ -63,11 +63,11 @@ ends_in k [] = false
 ends_in k (s ∷ []) = is_same_step (name k) s
 ends_in k (s ∷ r ∷ l) = ends_in k (r ∷ l)
 
--- `$..name` selects exactly the locations whose last step is that name and where something is.
+-- `$..name` selects exactly the locations with a value whose last step is that name.
 abbrev pub NamedBelow : Type 0
 NamedBelow = (k : List ℕ) (doc : Document) (l : Location) → IsTrue (has_distinct_names doc.root) → is_among (selected (named_anywhere k) doc) l ≡ (ends_in k l && is_some (at l doc.root))
 
--- So where all of them are masked, others too, by a text, nothing of that name is then anything but the mask.
+-- So if all of them are masked, and maybe others, by a text, the only value of that name is the mask.
 abbrev pub NamedIsMasked : Type 0
 NamedIsMasked = (k : List ℕ) (doc : Document) (set : Location → Bool) (u : Tree) → IsTrue (has_distinct_names doc.root) → ((l : Location) → IsTrue (is_among (selected (named_anywhere k) doc) l) → IsTrue (set l)) → IsSome (as_text u)
     → (l : Location) → IsTrue (ends_in k l) → IfSome (at l (overwritten set u doc.root)) (λ t. t ≡ u)

@@ -1,7 +1,7 @@
 -- What a query selects (RFC 9535, 2.1.2 and 2.3 to 2.5).
 --
--- Each definition has a value on every query tree, also on one that the typing of 2.4.3 refuses: where a value is asked of a query, it is
--- that of its only node; what is no query has no nodes; and a test of a call holds where it answers true.
+-- Each definition has a value on every query tree, also on an ill-typed one (2.4.3): the value of a query is that of its only node; what is no query
+-- has no nodes; and a test of a call holds if the call returns true.
 use Rattle.std.specs.Prelude.{ℕ, suc, ◌-◌, ℤ, pos, negsuc, List, [], ◌∷◌, ◌++◌, length, map, filter, nat_lt, if◌then◌else◌, Bool, true, false, not, ◌&&◌, ◌||◌, Option, Some, None, option_and_then, option_to_list}
 use Rattle.std.specs.List.{flat_map}
 use Rattle.jsonpath_parser.specs.Location as location
@@ -18,12 +18,12 @@ use Rattle.jsonpath_base.specs.documents.Document.{Document}
 use Rattle.jsonpath_base.specs.documents.Comparing.{compares}
 use Rattle.jsonpath_base.specs.documents.Functions.{length_of, count_of, is_matched, only_value, Evaluated, of_value, of_nodes, as_value, as_nodes, as_trees, as_truth}
 
--- the element that an index means in a list of this length: a negative one counts from the end (2.3.3)
+-- the element that an index means in a list of this length; a negative index counts from the end (2.3.3)
 abbrev pub element_of : ℤ → ℕ → Option ℕ
 element_of (pos n) len = if nat_lt n len then Some n else None
 element_of (negsuc n) len = if nat_lt n len then Some (len - suc n) else None
 
--- the node of that step, where there is one
+-- the node of that step, if there is one
 abbrev pub named : List ℕ → Node → List Node
 named k n = map (below n.location (location.name k)) (option_to_list (child (location.name k) n.tree))
 
@@ -43,7 +43,7 @@ literal_tree (string s) = tree.text s
 literal_tree (bool b) = truth b
 literal_tree syntax.null = tree.null
 
--- `!` in front turns a truth round
+-- `!` negates a truth
 abbrev pub negated : Bool → Bool → Bool
 negated true b = not b
 negated false b = b
@@ -61,7 +61,7 @@ abbrev mutual
   all_pick no_selectors d n = []
   all_pick (selector s ss) d n = picks s d n ++ all_pick ss d n
 
-  -- what a segment makes of one node (2.5)
+  -- what a segment selects from one node (2.5)
   pub replaced : Segment → Document → Node → List Node
   replaced (one s) d n = picks s d n
   replaced (several ss) d n = all_pick ss d n
@@ -88,7 +88,7 @@ abbrev mutual
   each_holds no_filters d n = true
   each_holds (filter_then f fs) d n = holds f d n && each_holds fs d n
 
-  -- what a function answers, if it is not absent (2.4)
+  -- what a function returns, if it is not absent (2.4)
   pub answer : Call → Document → Node → Option Tree
   answer (custom_call name args) d n = Some (d.custom name (all_trees args d n))
   answer (length_call a) d n = length_of (as_value (argued a d n))

@@ -1,4 +1,4 @@
--- Which queries are refused for a pattern, and where. The definitions here are for the contracts that name that refusal.
+-- Which queries fail for a pattern, and where. The definitions here are for the contracts that name that error.
 use Rattle.std.specs.Prelude.{◌≡◌, ℕ, List, [], ◌∷◌, ◌++◌, ◌⊎◌, Bool, true, false, Option, Some, IsSome}
 use Rattle.std.specs.List.{Contains}
 use Rattle.jsonpath_parser.specs.tree.Syntax.{Selector, Selectors, Segment, Segments, Filter, Filters, Test, Call, search_call, match_call, Argument, Arguments, Query}
@@ -24,7 +24,7 @@ pattern_of _ = []
 abbrev pub pattern_question : TreeFold (List (Bool × Argument))
 pattern_question = record { none = []; both = ◌++◌; of_test = λ t. []; of_side = λ x. []; of_root = []; of_call = pattern_of }
 
--- the patterns that stand in a query
+-- the patterns in a query
 abbrev pub segments_patterns : Segments → List (Bool × Argument)
 segments_patterns = over_segments pattern_question
 
@@ -57,12 +57,12 @@ argument_patterns = over_argument pattern_question
 abbrev pub arguments_patterns : Arguments → List (Bool × Argument)
 arguments_patterns = over_arguments pattern_question
 
--- the value is a text in which `regex` reads a pattern: with true for `match`, which asks of the entire text, and with false for `search`
+-- the value is a text in which `regex` reads a pattern: with true for `match`, which takes the entire text, and with false for `search`
 abbrev pub IsPattern : Bool → Option Tree → Type 0
 IsPattern entire (Some (tree.text s)) = IsSome (pattern_sought entire s)
 IsPattern entire _ = ⊥
 
--- One of these patterns has, at some node of the document, a value that is a text which `regex` reads.
+-- One of these patterns has, at some node of the document, a value that is a text that `regex` reads.
 pub record AsksPattern (patterns : List (Bool × Argument)) (doc : Document) : Type 0 where
   pub entire : Bool
   pub pattern : Argument
@@ -71,10 +71,10 @@ pub record AsksPattern (patterns : List (Bool × Argument)) (doc : Document) : T
   pub at_node : IsValueAt doc node.location node.tree
   pub read : IsPattern entire (as_value (argued pattern doc node))
 
--- Memory ran out; or it is `InvalidJsonPath`, and a pattern that stands in the query is such a one.
+-- Memory ran out; or it is `InvalidJsonPath`, and there is such a pattern in the query.
 abbrev pub IsStop : Query → Document → JsonPathError → Type 0
 IsStop q doc e = (e ≡ OutOfMemory → ⊥) → IsInvalid e × AsksPattern (segments_patterns q) doc
 
--- The text is no query, and refused as none; or it is one, and memory ran out or there is such a pattern.
+-- The text is no query, and refused for that; or it is one, and memory ran out or there is such a pattern.
 abbrev pub IsQueryRefusal : ℕ → List ℕ → Document → JsonPathError → Type 0
 IsQueryRefusal limit text doc e = IsRefusal limit text e ⊎ ((q : Query) × Derives limit text q × IsStop q doc e)

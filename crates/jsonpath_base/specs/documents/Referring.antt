@@ -18,7 +18,7 @@ pub record Refers (text : List ℕ) (doc : Document) (l : Location) : Type 0 whe
   pub singular : IsTrue (is_singular query)
   pub only : selected query doc ≡ l ∷ []
 
--- the location that the text means in the document, or none where it means none
+-- the location that the text means in the document, or none
 pub record IsReference (text : List ℕ) (doc : Document) (reference : Option Location) : Type 0 where
   pub found : IfSome reference (Refers text doc)
   pub all : (l : Location) → Refers text doc l → reference ≡ Some l
@@ -39,14 +39,14 @@ pub record IsReferred (text : List ℕ) (doc : Document) (answer : Option Tree) 
   pub means : IsReference text doc reference
   pub there : answer ≡ tree_there reference doc.root
 
--- The new tree stands at the location that the text means, and the answer is whether there is one.
+-- The new tree is at the location that the text means, and the result is whether there is one.
 pub record IsReplaced (text : List ℕ) (doc : Document) (new : Tree) (answer : Bool) (after : Tree) : Type 0 where
   pub reference : Option Location
   pub means : IsReference text doc reference
   pub replaced : after ≡ put_there reference new doc.root
   pub found : answer ≡ is_some reference
 
--- The new tree is put at the location, and the answer is whether something was there.
+-- The new tree is put at the location, and the result is whether there was a value.
 pub record IsPut (l : Location) (old new : Tree) (answer : Bool) (after : Tree) : Type 0 where
   pub found : answer ≡ is_some (at l old)
   pub left : after ≡ put l new old

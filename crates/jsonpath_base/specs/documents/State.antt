@@ -1,5 +1,5 @@
--- What a state holds, what is found from a pointer, and how states are joined: what `process` works with. A state may hold anything, whether or
--- not a query from the root would ever make it.
+-- What a state holds, what is found from a pointer, and how states are joined: what `process` works with. A state may hold anything, whether or not a
+-- query from the root could make it.
 use Rattle.std.specs.Prelude.{◌≡◌, ◌⊎◌, ℕ, ℤ, List, [], ◌∷◌, ◌++◌, map, filter, Bool, true, false, Option, Some, None, ◌&&◌, bytes_eq, codes, string_bytes, IsTrue, All}
 use Rattle.std.specs.List.{flat_map, AllZip}
 use Rattle.jsonpath_parser.specs.Normal.{steps_text}
@@ -12,7 +12,7 @@ use Rattle.jsonpath_base.specs.declared.documents.state.data.Data.{Data}
 use Rattle.jsonpath_base.specs.declared.documents.state.data.Data.TheVariants.{Ref, Refs, Value, Nothing}
 use Rattle.jsonpath_base.specs.declared.documents.state.pointer.Pointer.{Pointer}
 
--- a pointer: the text of its path, any text at all, and the tree of its value
+-- a pointer: the text of its path, which may be any text, and the tree of its value
 pub record Target : Type 0 where
   pub path : List ℕ
   pub tree : Tree
@@ -36,7 +36,7 @@ content_of tree (Refs ps) = refs (targets_of tree ps.items)
 content_of tree (Value v) = value (tree v)
 content_of tree Nothing = nothing
 
--- all its values are documents of whole numbers
+-- all its values are whole
 abbrev pub PointersAreWhole : {A : Type 0} → (A → Bool) → List (Pointer A) → Type 0
 PointersAreWhole whole ps = All (λ p. IsTrue (whole p.inner.now)) ps
 
@@ -64,7 +64,7 @@ ok_refs (Ref p) = Some (p ∷ [])
 ok_refs (Refs ps) = Some ps.items
 ok_refs _ = None
 
--- its value of its own
+-- its owned value
 abbrev pub ok_value : {A : Type 0} → Data A → Option A
 ok_value (Value v) = Some v
 ok_value _ = None
@@ -83,7 +83,7 @@ contents_same (value t) (value u) = same t u
 contents_same nothing nothing = true
 contents_same _ _ = false
 
--- ---- `flat_map`: what is made at a node; of several nodes, the nodes of what is made at each, in order; and else nothing
+-- ---- `flat_map`: what the function returns at a node; of several nodes, the nodes of what it returns at each, in order; and else nothing
 
 abbrev pub mapped : (Target → Content) → Content → Content
 mapped f (ref p) = f p
@@ -98,14 +98,14 @@ abbrev pub HasNothing : {A : Type 0} → Data A → Type 0
 HasNothing Nothing = Unit {0}
 HasNothing _ = ⊥
 
--- The same of any closure: Gives p d says that d is what it answered at p.
+-- The same for any closure: Gives p d says that d is what it returned at p.
 abbrev pub Made : {A : Type 0} → (Pointer A → Data A → Type 0) → Data A → Data A → Type 0
 Made Gives (Ref p) d = Gives p d
 Made {A} Gives (Refs ps) d = (ds : List (Data A)) × AllZip Gives ps.items ds × AreRefs d (flat_map pointers ds)
 Made Gives (Value v) d = HasNothing d
 Made Gives Nothing d = HasNothing d
 
--- what is given at a pointer whose value is whole is whole
+-- what is returned at a pointer whose value is whole is whole
 abbrev pub GivesWhole : {A : Type 0} → (A → Bool) → (Pointer A → Data A → Type 0) → Type 0
 GivesWhole {A} whole Gives = (p : Pointer A) (d : Data A) → IsTrue (whole p.inner.now) → Gives p d → DataIsWhole whole d
 
@@ -114,7 +114,7 @@ abbrev pub SomeHas : {X : Type 0} → (X → Type 0) → List X → Type 0
 SomeHas P [] = ⊥
 SomeHas P (x ∷ xs) = P x ⊎ SomeHas P xs
 
--- ---- `reduce`: the nodes of both, or those of the one where the other is nothing; and else nothing
+-- ---- `reduce`: the nodes of both, or those of one if the other is nothing; and else nothing
 
 abbrev pub reduced : Content → Content → Content
 reduced (ref p) (ref q) = refs (p ∷ q ∷ [])
@@ -127,7 +127,7 @@ reduced nothing (ref q) = ref q
 reduced nothing (refs qs) = refs qs
 reduced _ _ = nothing
 
--- ---- what is found from a pointer: nodes below its value, the steps to each behind the pointer's path
+-- ---- what is found from a pointer: nodes below its value, each with the steps to it after the pointer's path
 
 abbrev pub under : List ℕ → Node → Target
 under path n = record { path = path ++ steps_text n.location; tree = n.tree }
@@ -135,17 +135,17 @@ under path n = record { path = path ++ steps_text n.location; tree = n.tree }
 abbrev pub found_from : Target → (Node → List Node) → List Target
 found_from p f = map (under p.path) (f (root_node p.tree))
 
--- the first, where there is one
+-- the first, if there is one
 abbrev pub only : List Target → Content
 only [] = nothing
 only (p ∷ ps) = ref p
 
--- all, where there is one
+-- all, if there is one
 abbrev pub some : List Target → Content
 some [] = nothing
 some (p ∷ ps) = refs (p ∷ ps)
 
--- all, perhaps none, where the value is a list
+-- all, maybe none, if the value is a list
 abbrev pub in_list : Tree → List Target → Content
 in_list (list ts) ps = refs ps
 in_list _ ps = nothing
@@ -155,7 +155,7 @@ has_parts (list ts) = true
 has_parts (object ms) = true
 has_parts _ = false
 
--- all, perhaps none, where the value is a list or an object
+-- all, maybe none, if the value is a list or an object
 abbrev pub in_parts : Bool → List Target → Content
 in_parts true ps = refs ps
 in_parts false ps = nothing
@@ -183,7 +183,7 @@ parents_from p = in_parts (has_parts p.tree) (parents_in p)
 abbrev pub inside : Tree → Content
 inside t = ref (record { path = []; tree = t })
 
--- the children at which the test holds, each asked by itself
+-- the children at which the test holds, each tested by itself
 abbrev pub kept_from : (Content → Bool) → Target → Content
 kept_from holds p = in_parts (has_parts p.tree) (filter (λ q. holds (inside q.tree)) (found_from p children))
 

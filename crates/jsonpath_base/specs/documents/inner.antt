@@ -1,4 +1,4 @@
--- What the crate's own contracts and proofs say. Nothing here is part of what a query means.
+-- The definitions for the crate's own contracts and proofs. Nothing here is part of what a query means.
 pub mod Following
 pub mod Parts
 pub mod Refusing

@@ -1,4 +1,4 @@
--- What is spelled of a way, for the contracts of `CurrentPath` alone.
+-- The text of a path, for the contracts of `CurrentPath` alone.
 use Rattle.std.specs.Prelude.{◌≡◌, ℕ, ◌<◌, ◌≤◌, List, length, take, get_or}
 use Rattle.jsonpath_parser.specs.Normal.{steps_text}
 use Rattle.jsonpath_base.specs.Steps.{lent_location}
@@ -8,7 +8,7 @@ use Rattle.jsonpath_base.specs.declared.step.StepRef.{StepRef}
 abbrev pub spelled : List StepRef → List ℕ
 spelled steps = steps_text (lent_location steps)
 
--- The text is that of the first steps, of as many as there are starts, and each of them begins at its start.
+-- The text is that of the first steps, as many as there are starts, and each of them begins at its start.
 pub record IsSpelled (steps : List StepRef) (starts : List ℕ) (bytes : List ℕ) : Type 0 where
   pub within : length starts ≤ length steps
   pub text : bytes ≡ spelled (take (length starts) steps)

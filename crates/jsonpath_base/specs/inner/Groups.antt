@@ -6,7 +6,7 @@ use Rattle.regex_hir.specs.Meaning.{meaning}
 use Rattle.regex_hir.specs.declared.hir.Hir.{Hir}
 use Rattle.jsonpath_base.specs.Pattern.{is_found}
 
--- each group as what stands in it
+-- each group replaced by what is in it
 abbrev pub without_groups : Re → Re
 without_groups empty = empty
 without_groups (literal bs) = literal bs

@@ -1,4 +1,4 @@
--- What the loan of a part leaves, by kind, and the last steps of a location.
+-- What the borrow of a part leaves, by kind, and the last steps of a location.
 use Rattle.std.specs.Prelude.{◌≡◌, ℕ, zero, suc, ◌-◌, List, [], ◌∷◌, length, Bool, true, false, Option, Some, None, Vec, String, ⊤, slice_get, string_bytes}
 use Rattle.std.specs.BTreeMap.{BTreeMap, is_at}
 use Rattle.std.specs.Borrow.{Lends, LendsSo, MutBor, Fml, follows_so}
@@ -22,7 +22,7 @@ use Rattle.jsonpath_base.specs.declared.step.Step.TheVariants.{Name, Index}
 
 -- ---- the last steps
 
--- the first of those that are left
+-- the first of the remaining steps
 abbrev pub next : List Step → ℕ → Option Step
 next steps remaining = slice_get steps (length steps - remaining)
 
@@ -42,12 +42,12 @@ abbrev pub step_in : Option Step → location.Step
 step_in (Some s) = owned_step s
 step_in None = location.index 0
 
--- where the steps that are left lead
+-- where the remaining steps lead
 abbrev pub rest : List Step → ℕ → Location
 rest steps zero = []
 rest steps (suc remaining) = step_in (next steps (suc remaining)) ∷ rest steps remaining
 
--- ---- loans
+-- ---- borrows
 
 abbrev pub LendsList : MutBor Value → MutBor (Vec Value Global) → Fml
 LendsList s r = Lends the_row list_row s r Array
@@ -67,6 +67,6 @@ LendsMember k s r = LendsSo map_row the_row s r (λ n w. OnSome r (n.entries ≡
 abbrev pub LendsFound : List ℕ → MutBor (BTreeMap (String Global) Value) → MutBor Value → Fml
 LendsFound k s r = LendsMember k s (Some r)
 
--- what stands where the steps that are left lead
+-- what is there where the remaining steps lead
 abbrev pub LendsRest : List Step → ℕ → MutBor Value → MutBor Value → Fml
 LendsRest steps remaining s r = follows_so the_row the_row s.ghost_name (maybe.some r.ghost_name) (λ w n. value_tree n ≡ put (rest steps remaining) (value_tree w) (value_tree s.now)) (λ n. ⊤)

@@ -1,4 +1,4 @@
--- What a replacement leaves of the data of a value, for its contracts alone: as Overwritten says it of trees.
+-- What a replacement leaves of the data of a value, for its contracts alone: as Overwritten says for trees.
 use Rattle.std.specs.Prelude.{◌≡◌, String, ℕ, suc, ◌+◌, List, [], ◌∷◌, Bool, if◌then◌else◌, None, All}
 use Rattle.std.specs.Global.{Global}
 use Rattle.std.specs.Map.{lookup}
@@ -36,17 +36,17 @@ data_overwritten set u d = if set [] then u else data_below set u d
 abbrev pub AreAll : Data → List Value → Type 0
 AreAll u vs = All (λ v. view v ≡ u) vs
 
--- ---- one entry of marks after the other
+-- ---- one entry of a trie after the other
 
--- With the marks behind this element's, the list is overwritten as with its marks too.
+-- With the entries after this element's, the list is overwritten as with its entry too.
 pub record IsFilledAt (i : ℕ) (m : LocationTrie) (u : Data) (old new : Items) : Type 0 where
   pub each : (es : List (ℕ × LocationTrie)) → lookup (is_key index (index i)) es ≡ None → items_overwritten (marked_below index es) u 0 new ≡ items_overwritten (marked_below index ((i, m) ∷ es)) u 0 old
 
--- The same of a member.
+-- The same for a member.
 pub record IsFilledBy (k : String Global) (m : LocationTrie) (u : Data) (old new : Members) : Type 0 where
   pub each : (es : List (String Global × LocationTrie)) → lookup (is_key to_member (to_member k)) es ≡ None → members_overwritten (marked_below to_member es) u new ≡ members_overwritten (marked_below to_member ((k, m) ∷ es)) u old
 
--- ---- how many of the locations lie inside no other
+-- ---- the number of locations that are inside no other
 
 abbrev pub outermost_step : LocationTrie-F ℕ → ℕ
 outermost_step m = if m.is_marked then 1 else total m.names.items + total m.indexes.items
@@ -54,7 +54,7 @@ outermost_step m = if m.is_marked then 1 else total m.names.items + total m.inde
 abbrev pub outermost_count : LocationTrie → ℕ
 outermost_count = fold-LocationTrie ℕ outermost_step
 
--- the same of the entries of one level
+-- the same for the entries of one level
 abbrev pub outermost_total : {K : Type 0} → List (K × LocationTrie) → ℕ
 outermost_total [] = 0
 outermost_total (e ∷ es) = outermost_count e.1 + outermost_total es

@@ -1,4 +1,4 @@
--- What the helpers behind `Pattern` do.
+-- What the helpers of `Pattern` do.
 use Rattle.std.specs.Prelude.{◌≡◌, ℕ, ◌<◌, Bool, false, not, ◌&&◌, ◌==◌, List, [], ◌∷◌, Option, None, Some, is_some, get_or, codes, if◌then◌else◌}
 use Rattle.std.specs.Str.{byte}
 use Rattle.regex.specs.Patterns.{Re, find_str}
@@ -7,18 +7,18 @@ use Rattle.jsonpath_base.specs.declared.pattern.groupless.Regex.{Regex}
 use Rattle.jsonpath_base.specs.declared.pattern.groupless.Matcher.{Matcher}
 use Rattle.jsonpath_base.specs.Pattern.{is_inside, is_found}
 
--- what one character of a pattern becomes, inside a class or not, behind a backslash that counts or not
+-- what one character of a pattern becomes, inside a class or not, after a backslash that counts or not
 abbrev pub written : Bool → Bool → ℕ → List ℕ
 written inside escaped c = if not escaped && not inside && c == byte "." then codes "[^\\n\\r]" else c ∷ []
 
--- whether the next character stands inside a class, and behind such a backslash
+-- whether the next character is inside a class, and after such a backslash
 abbrev pub inside_after : Bool → Bool → ℕ → Bool
 inside_after inside escaped c = if escaped then inside else (if c == byte "\\" then inside else is_inside inside c)
 
 abbrev pub escaped_after : Bool → ℕ → Bool
 escaped_after escaped c = not escaped && c == byte "\\"
 
--- what a regex looks for, and what searches with it
+-- what a regex looks for, and what its matcher looks for
 abbrev pub regex_pattern : Regex → Re
 regex_pattern r = pattern_of r.program
 
@@ -30,11 +30,11 @@ abbrev pub is_found_by : Option Regex → List ℕ → Bool
 is_found_by None text = false
 is_found_by (Some r) text = is_some (find_str (regex_pattern r) text 0)
 
--- the built regex stands for what is sought: it is found in the same texts
+-- the built regex means what is sought: it is found in the same texts
 abbrev pub FindsSame : Option Re → Option Regex → Type 0
 FindsSame sought regex = (text : List ℕ) → ((k : ℕ) → get_or text k 0 < 256) → is_found_by regex text ≡ is_found sought text
 
--- the same of what searches with it
+-- the same for its matcher
 abbrev pub is_matched_by : Option Matcher → List ℕ → Bool
 is_matched_by None text = false
 is_matched_by (Some m) text = is_some (find_str (matcher_pattern m) text 0)

@@ -8,11 +8,11 @@ use Rattle.jsonpath_base.specs.Steps.{owned_step}
 use Rattle.jsonpath_base.specs.Values.{value_tree}
 use Rattle.jsonpath_base.specs.declared.step.Step.{Step}
 
--- what `~` alone needs
+-- a character with only `~` escaped
 abbrev pub tilde_escaped : ℕ → List ℕ
 tilde_escaped c = if c == byte "~" then codes "~0" else c ∷ []
 
--- A token leads from one value to a child of it, and its step stands behind the others.
+-- A token leads from one value to a child of it, and its step is after the others.
 pub record GoesDown (token : List ℕ) (target : Value) (old new : List Step) (below : Value) : Type 0 where
   pub step : Step
   pub steps : new ≡ old ++ step ∷ []

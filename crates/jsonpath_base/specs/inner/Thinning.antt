@@ -1,4 +1,4 @@
--- What removal leaves of the data of a value, for its contracts alone: as Without says it of trees.
+-- What removal leaves of the data of a value, for its contracts alone: as Without says for trees.
 use Rattle.std.specs.Prelude.{◌≡◌, String, ℕ, suc, List, [], ◌∷◌, Bool, if◌then◌else◌, Option, Some, None}
 use Rattle.std.specs.Global.{Global}
 use Rattle.std.specs.Map.{lookup}
@@ -40,12 +40,12 @@ abbrev pub sieved : List (ℕ × LocationTrie) → ℕ → Items → Items
 sieved es i no_items = no_items
 sieved es i (item d ds) = if marked_by (lookup (is_key index (index i)) es) [] then sieved es (suc i) ds else item d (sieved es (suc i) ds)
 
--- ---- one entry of marks after the other
+-- ---- one entry of a trie after the other
 
--- With the marks behind this element's, the list is thinned as with its marks too.
+-- With the entries after this element's, the list is thinned as with its entry too.
 pub record IsThinnedAt (i : ℕ) (m : LocationTrie) (old new : Items) : Type 0 where
   pub each : (es : List (ℕ × LocationTrie)) → lookup (is_key index (index i)) es ≡ None → thinned_below es 0 new ≡ thinned_below ((i, m) ∷ es) 0 old
 
--- The same of a member.
+-- The same for a member.
 pub record IsThinnedBy (k : String Global) (m : LocationTrie) (old new : Members) : Type 0 where
   pub each : (es : List (String Global × LocationTrie)) → lookup (is_key to_member (to_member k)) es ≡ None → members_thinned (marked_below to_member es) new ≡ members_thinned (marked_below to_member ((k, m) ∷ es)) old

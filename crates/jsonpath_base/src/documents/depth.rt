@@ -1,4 +1,4 @@
-//! How deep lists and objects stand in one another.
+//! The depth of lists and objects in one another.
 ghost use Rattle.std.specs.Prelude.{◌≡◌, IfErr};
 ghost use Rattle.jsonpath_base.specs.Prelude.Documents.{Memory};
 
@@ -6,9 +6,9 @@ use crate::documents::queryable::Queryable;
 use crate::documents::walk_error::WalkResult;
 use std::alloc::Global;
 
-/// Whether lists and objects stand in one another more than `levels` deep, the value itself
-/// counted. Each value inside takes one of `looks`: an element when it is looked at, the members of
-/// an object before they are listed. Where these run out the answer is that of what was looked at.
+/// Returns whether lists and objects are in one another more than `levels` deep, the value itself counted. Each value
+/// inside takes one of `looks`: an element when it is visited, the members of an object before they are listed. Where
+/// the looks run out, the result covers only the values that were visited.
 #[cycle(depth)]
 pub fn is_deeper<T: Queryable>(
     alloc: Global,
@@ -38,7 +38,7 @@ pub fn is_deeper<T: Queryable>(
     }
 }
 
-/// The same of a list of these elements.
+/// Returns whether some of these elements is that deep.
 #[cycle(depth)]
 fn is_list_deeper<T: Queryable>(
     alloc: Global,
@@ -63,7 +63,7 @@ fn is_list_deeper<T: Queryable>(
     Ok(false)
 }
 
-/// The same of one of these members, at least.
+/// Returns whether some of these members is that deep.
 #[cycle(depth)]
 fn is_member_deeper<T: Queryable>(
     alloc: Global,

@@ -1,5 +1,5 @@
-//! The value that a reference means, lent for writing. The text is read first, and what it was
-//! found to mean is kept, a refusal too; then lending cannot fail.
+//! Borrows the value that a reference means for writing. The text is read first, and its result is stored, an error
+//! too; then borrowing cannot fail.
 ghost use Rattle.std.specs.Prelude.{◌≡◌, IfErr, IfOk, IfSome, is_some, IsTrue, option_map, Some};
 ghost use Rattle.jsonpath_base.specs.Prelude.Documents.{answer_of, IsReference, IsReferred, LendsReferred, LendsThere, lent_in, location_view, OutOfMemory, place_in, sem, tree_there, value_document, value_is_whole, value_tree};
 
@@ -9,15 +9,14 @@ use crate::{Step, at_mut};
 use serde_json::Value;
 use std::alloc::Global;
 
-/// What a text was found to mean: the steps to a value, none, or a refusal.
+/// The result of reading a text: the steps to a value, none, or an error.
 #[derive(Drop)]
 struct Sought {
     steps: Queried<Option<Vec<Step>>>,
 }
 
-/// The value at the one location that a path of names and indexes means, lent for writing, or None.
-/// When the loan ends, what was written stands there, and nothing else has changed. It refuses by
-/// `OutOfMemory` alone.
+/// Borrows the value at the one location that a path of names and indexes means for writing, or returns None. When the
+/// borrow ends, what was written is there, and nothing else has changed. It fails with `OutOfMemory` only.
 pub fn referred_mut<'v>(
     alloc: Global,
     value: &'v mut Value,
@@ -33,7 +32,7 @@ pub fn referred_mut<'v>(
     answer(sought, lent)
 }
 
-/// What a text means.
+/// Returns what a text means.
 fn seek(alloc: Global, value: &Value, path: &str) -> Sought
     ensures means { IfOk result.steps (λ o. IsReference path.now (value_document value.now) (option_map (λ v. location_view v.items) o)) }
     ensures memory { IfErr result.steps (λ e. e ≡ OutOfMemory) }
@@ -43,7 +42,7 @@ fn seek(alloc: Global, value: &Value, path: &str) -> Sought
     }
 }
 
-/// Whether there are steps.
+/// Returns whether there are steps.
 fn is_found(sought: &Sought) -> bool
     ensures { result ≡ is_some (place_in sought.now.steps) }
 {
@@ -53,7 +52,7 @@ fn is_found(sought: &Sought) -> bool
     }
 }
 
-/// The steps, and none where there are none.
+/// Returns the steps, or an empty slice if there are none.
 fn steps_in(sought: &Sought) -> &[Step]
     ensures { IsTrue (is_some (place_in sought.now.steps)) → place_in sought.now.steps ≡ Some (location_view result.now) }
 {
@@ -63,7 +62,7 @@ fn steps_in(sought: &Sought) -> &[Step]
     }
 }
 
-/// The value at these steps, lent for writing, or None where there are none.
+/// Borrows the value at these steps for writing, or returns None where there are none.
 fn lend_sought<'v>(value: &'v mut Value, sought: &Sought) -> Option<&'v mut Value>
     ensures* writes_back { sem 𝓛 (LendsThere (place_in sought.now.steps) value.entry result) }
     ensures value { option_map (λ v. value_tree v.now) result ≡ tree_there (place_in sought.now.steps) (value_tree value.old) }
@@ -75,7 +74,7 @@ fn lend_sought<'v>(value: &'v mut Value, sought: &Sought) -> Option<&'v mut Valu
     None
 }
 
-/// What is lent, or the refusal.
+/// Returns the borrowed value, or the error.
 fn answer<'v>(sought: Sought, lent: Option<&'v mut Value>) -> Queried<Option<&'v mut Value>>
     ensures { result ≡ answer_of sought.steps lent.entry }
 {

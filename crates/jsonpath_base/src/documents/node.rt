@@ -17,22 +17,21 @@ pub struct QueryRef<'a, T> {
 }
 
 impl<'a, T: Queryable> QueryRef<'a, T> {
-    /// The value.
+    /// Returns the value.
     pub fn val(self) -> &'a T
         ensures { result.now ≡ self.entry.val.now }
     {
         self.val
     }
 
-    /// The Normalized Path.
+    /// Returns the Normalized Path.
     pub fn path(self) -> QueryPath
         ensures { result ≡ self.entry.path }
     {
         self.path
     }
 
-    /// The node of this value and a copy of this path, whatever text that is. It refuses by
-    /// `OutOfMemory` alone.
+    /// Returns the node of this value and a copy of this path, whatever text that is. It fails with `OutOfMemory` only.
     pub fn from_str_path(alloc: Global, val: &'a T, path: &str) -> Queried<Self>
         ensures val { IfOk result (λ r. r.val.now ≡ val.now) }
         ensures path { IfOk result (λ r. string_bytes r.path ≡ path.now) }
@@ -42,8 +41,8 @@ impl<'a, T: Queryable> QueryRef<'a, T> {
         Ok(QueryRef { val, path })
     }
 
-    /// Whether two nodes have paths of the same text and values that are the same
-    /// ([`Queryable::equal`]). It takes no memory of its own.
+    /// Returns whether two nodes have paths of the same text and values that are the same ([`Queryable::equal`]). It
+    /// takes no memory of its own.
     pub fn equal(&self, other: &Self) -> bool
         requires left { IsTrue (T.is_whole self.now.val.now) }
         requires right { IsTrue (T.is_whole other.now.val.now) }
@@ -53,8 +52,7 @@ impl<'a, T: Queryable> QueryRef<'a, T> {
         self.path == other.path && self.val.equal(other.val)
     }
 
-    /// The same value, borrowed once more, and a copy of its path. It refuses by `OutOfMemory`
-    /// alone.
+    /// Returns the node with the same borrowed value, and a copy of its path. It fails with `OutOfMemory` only.
     pub fn try_clone(&self, alloc: Global) -> Queried<Self>
         ensures val { IfOk result (λ r. r.val.now ≡ self.now.val.now) }
         ensures path { IfOk result (λ r. string_bytes r.path ≡ string_bytes self.now.path) }

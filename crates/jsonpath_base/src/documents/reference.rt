@@ -1,6 +1,5 @@
-//! Reading and writing at the one location that a singular query means (RFC 9535, 2.3.5.1): each of
-//! its segments is one name or one index. The steps are followed down from the root; the value is
-//! not walked.
+//! Reads and writes at the one location that a singular query means (RFC 9535, 2.3.5.1): each of its segments is one
+//! name or one index. The steps are followed down from the root; the value is not walked.
 ghost use Rattle.std.specs.Prelude.{◌≡◌, [], IfErr, IfOk, IfSome, IsSome, IsTrue, OnErr, option_map, Some};
 ghost use Rattle.jsonpath_base.specs.Prelude.Documents.{reached_view, followed, HasIndexesInRange, IsNormal, IsPut, IsReference, IsReferred, IsReplaced, Location, location_view, OutOfMemory, referent_view, segment_view, segments_in, selector_view, step_to, value_document, value_is_whole, value_tree};
 ghost use Rattle.jsonpath_parser.specs.Location as location;
@@ -30,16 +29,15 @@ struct Referent<'v> {
     value: &'v Value,
 }
 
-/// Puts a value at one place, not at all that a query selects. The path, such as a Normalized Path,
-/// is of names and indexes alone, and the value there goes for the new one; then it returns true.
-/// Where the text means no location, as each other text does, it returns false and nothing is
-/// changed. It refuses by `OutOfMemory` alone, and then nothing is changed.
+/// Replaces the value at one location, not at all locations that a query selects, and returns true. The path, such as a
+/// Normalized Path, consists of names and indexes only. Returns false, and changes nothing, where the text means no
+/// location, as any other text. It fails with `OutOfMemory` only, and then nothing is changed.
 ///
-/// The time is linear in the length of the path, with a search by name in each object on the way.
+/// It takes time linear in the length of the path, with a search by name in each object on the path.
 pub fn replace_by_path(alloc: Global, value: &mut Value, path: &str, new: Value) -> Queried<bool>
     ensures replaced { IfOk result (λ found. IsReplaced path.now (value_document value.old) (value_tree new) found (value_tree value.new)) }
 
-    // The Normalized Path of a location means that location, wherever something is there.
+    // The Normalized Path of a location means that location, wherever there is a value.
     ensures normal { (l : Location) → IsNormal l path.now → HasIndexesInRange l →
         IfOk result (λ found. IsPut l (value_tree value.old) (value_tree new) found
         (value_tree value.new)) }
@@ -53,8 +51,8 @@ pub fn replace_by_path(alloc: Global, value: &mut Value, path: &str, new: Value)
     }
 }
 
-/// The value at the one location that a path of names and indexes means, or None. It refuses by
-/// `OutOfMemory` alone.
+/// Returns the value at the one location that a path of names and indexes means, or None. It fails with `OutOfMemory`
+/// only.
 pub fn referred<'v>(alloc: Global, value: &'v Value, path: &str) -> Queried<Option<&'v Value>>
     ensures value { IfOk result (λ o. IsReferred path.now (value_document value.now) (option_map (λ v. value_tree v.now) o)) }
     ensures whole { IsTrue (value_is_whole value.now) → IfOk result (λ o. IfSome o (λ v. IsTrue (value_is_whole v.now))) }
@@ -66,16 +64,16 @@ pub fn referred<'v>(alloc: Global, value: &'v Value, path: &str) -> Queried<Opti
     }
 }
 
-/// The one location that a path of names and indexes means in a value, where something is: the
-/// steps to it from the root, an index below 0 counted from the end of its list; or None. It
-/// refuses by `OutOfMemory` alone.
+/// Returns the one location that a path of names and indexes means in a value, if there is a value at it: the steps to
+/// it from the root, with a negative index counted from the end of its list. Else it returns None. It fails with
+/// `OutOfMemory` only.
 ///
-/// The time is linear in the length of the path, with a search by name in each object on the way.
+/// It takes time linear in the length of the path, with a search by name in each object on the path.
 pub fn referred_location(alloc: Global, value: &Value, path: &str) -> Queried<Option<Vec<Step>>>
     ensures means { IfOk result (λ o. IsReference path.now (value_document value.now) (option_map (λ v. location_view v.items) o)) }
     ensures there { IfOk result (λ o. IfSome o (λ v. IsSome (places.at (location_view v.items) (value_tree value.now)))) }
 
-    // The Normalized Path of a location means that location, wherever something is there.
+    // The Normalized Path of a location means that location, wherever there is a value.
     ensures normal { (l : Location) → IsNormal l path.now → HasIndexesInRange l →
         IfOk result (λ o. option_map (λ v. location_view v.items) o
         ≡ option_map (λ t. l) (places.at l (value_tree value.now))) }
@@ -87,7 +85,7 @@ pub fn referred_location(alloc: Global, value: &Value, path: &str) -> Queried<Op
     }
 }
 
-/// That value and the steps to it.
+/// Returns the value that a path means, and the steps to it.
 fn referent_of<'v>(alloc: Global, value: &'v Value, path: &str) -> Queried<Option<Referent<'v>>>
     ensures means { IfOk result (λ o. IsReference path.now (value_document value.now) (option_map (λ p. location_view p.steps.items) o)) }
     ensures there { IfOk result (λ o. IfSome o (λ p. places.at (location_view p.steps.items)
@@ -106,7 +104,7 @@ fn referent_of<'v>(alloc: Global, value: &'v Value, path: &str) -> Queried<Optio
     }
 }
 
-/// Where the segments lead, if each of them leads to one child.
+/// Returns the value that the segments lead to, and the steps to it, if each segment leads to one child.
 fn follow<'v>(alloc: Global, segments: &[Segment], root: &'v Value) -> Queried<Option<Referent<'v>>>
     ensures value { IfOk result (λ o. option_map referent_view o ≡ followed (segments_in segments.now) [] (value_tree root.now)) }
     ensures whole { IsTrue (value_is_whole root.now) → IfOk result (λ o. IfSome o (λ p. IsTrue (value_is_whole p.value.now))) }
@@ -125,7 +123,7 @@ fn follow<'v>(alloc: Global, segments: &[Segment], root: &'v Value) -> Queried<O
     Ok(Some(Referent { steps, value }))
 }
 
-/// The child that a segment of one name or one index leads to.
+/// Returns the child that a segment of one name or one index leads to.
 fn segment_child<'v>(
     alloc: Global,
     segment: &Segment,
@@ -141,7 +139,7 @@ fn segment_child<'v>(
     }
 }
 
-/// The child that one name or one index picks.
+/// Returns the child that a selector of one name or one index picks.
 fn selector_child<'v>(
     alloc: Global,
     selector: &Selector,
@@ -159,7 +157,7 @@ fn selector_child<'v>(
     }
 }
 
-/// The member of that name.
+/// Returns the member of that name.
 fn member<'v>(alloc: Global, name: &str, value: &'v Value) -> Queried<Option<Reached<'v>>>
     ensures value { IfOk result (λ o. option_map reached_view o ≡ step_to (location.name name.now) (value_tree value.now)) }
     ensures whole { IsTrue (value_is_whole value.now) → IfOk result (λ o. IfSome o (λ c. IsTrue (value_is_whole c.value.now))) }
@@ -174,7 +172,7 @@ fn member<'v>(alloc: Global, name: &str, value: &'v Value) -> Queried<Option<Rea
     }
 }
 
-/// The element of that index; one below 0 counts from the end.
+/// Returns the element of that index; a negative index counts from the end.
 fn element(index: i64, value: &Value) -> Option<Reached<'_>>
     ensures value { option_map reached_view result ≡ following.element_step index (value_tree value.now) }
     ensures whole { IsTrue (value_is_whole value.now) → IfSome result (λ c. IsTrue (value_is_whole c.value.now)) }

@@ -1,4 +1,4 @@
-//! The refusal of a value that is no reference.
+//! The error for a value that is not in the document.
 ghost use Rattle.std.specs.Prelude.{◌≡◌, IfErr, IfOk};
 ghost use Rattle.jsonpath_base.specs.Prelude.Documents.{IsInvalid, OutOfMemory};
 
@@ -7,8 +7,8 @@ use crate::documents::queryable::Queryable;
 use jsonpath_parser::errors::JsonPathError;
 use std::alloc::Global;
 
-/// The error of a caller that asked for a value in a document and got one of its own:
-/// `InvalidJsonPath`, with a text that shows the value. It refuses by `OutOfMemory` alone.
+/// Returns the error for a caller that asked for a value in a document and got an owned one: `InvalidJsonPath`, with a
+/// text that shows the value. It fails with `OutOfMemory` only.
 pub fn not_a_reference<T: Queryable>(alloc: Global, value: &T) -> Queried<JsonPathError>
     ensures invalid { IfOk result IsInvalid }
     ensures memory { IfErr result (λ e. e ≡ OutOfMemory) }

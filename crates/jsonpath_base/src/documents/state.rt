@@ -1,4 +1,4 @@
-//! States: what a part of a query is asked of, and what it returns.
+//! States: what a part of a query is evaluated on, and what it returns.
 ghost use Rattle.std.specs.Prelude.{◌&&◌, ◌↔◌, ◌≡◌, ◌⊎◌, codes, Err, IfErr, IfOk, IsTrue, Ok, option_map};
 ghost use Rattle.jsonpath_base.specs.Prelude.Documents.{AllByRecursion, number, OutOfMemory, same, text, truth};
 ghost use Rattle.jsonpath_base.specs.Prelude.States.{content_of, contents_same, DataIsWhole, GivesWhole, Made, nothing, ok_refs, ok_value, pointers, reduced, ref, SomeHas, value};
@@ -13,7 +13,7 @@ pub use crate::documents::state::pointer::Pointer;
 use std::alloc::Global;
 use std::fmt::{self, Debug, Display, Formatter, Write};
 
-/// What is at hand, and the document that `$` means.
+/// The current data, and the document that `$` means.
 #[derive(Debug, Drop)]
 pub struct State<'a, T> {
     pub content: Data<'a, T>,
@@ -21,7 +21,7 @@ pub struct State<'a, T> {
 }
 
 impl<'a, T: Queryable> State<'a, T> {
-    /// That data, in that document.
+    /// Returns the state with this data, in that document.
     pub fn data(root: &'a T, given: Data<'a, T>) -> Self
         ensures content { result.content ≡ given.entry }
         ensures root { result.root.now ≡ root.now }
@@ -32,7 +32,7 @@ impl<'a, T: Queryable> State<'a, T> {
         }
     }
 
-    /// Nothing, in that document.
+    /// Returns the state with nothing, in that document.
     pub fn nothing(root: &'a T) -> Self
         ensures content { content_of T.tree result.content ≡ nothing }
         ensures root { result.root.now ≡ root.now }
@@ -43,7 +43,7 @@ impl<'a, T: Queryable> State<'a, T> {
         }
     }
 
-    /// That truth, as a value of its own. It refuses by `OutOfMemory` alone.
+    /// Returns the state with `true` or `false` as an owned value. It fails with `OutOfMemory` only.
     pub fn bool(alloc: Global, b: bool, root: &'a T) -> Queried<Self>
         ensures content { IfOk result (λ s. content_of T.tree s.content ≡ value (truth b)) }
         ensures whole { IfOk result (λ s. DataIsWhole T.is_whole s.content) }
@@ -56,7 +56,7 @@ impl<'a, T: Queryable> State<'a, T> {
         })
     }
 
-    /// That number, as a value of its own. It refuses by `OutOfMemory` alone.
+    /// Returns the state with that number as an owned value. It fails with `OutOfMemory` only.
     pub fn i64(alloc: Global, n: i64, root: &'a T) -> Queried<Self>
         ensures content { IfOk result (λ s. content_of T.tree s.content ≡ value (number n)) }
         ensures whole { IfOk result (λ s. DataIsWhole T.is_whole s.content) }
@@ -69,7 +69,7 @@ impl<'a, T: Queryable> State<'a, T> {
         })
     }
 
-    /// That text, as a value of its own. It refuses by `OutOfMemory` alone.
+    /// Returns the state with that text as an owned value. It fails with `OutOfMemory` only.
     pub fn str(alloc: Global, s: &str, root: &'a T) -> Queried<Self>
         ensures content { IfOk result (λ r. content_of T.tree r.content ≡ value (text s.now)) }
         ensures whole { IfOk result (λ r. DataIsWhole T.is_whole r.content) }
@@ -82,7 +82,7 @@ impl<'a, T: Queryable> State<'a, T> {
         })
     }
 
-    /// The document itself, at `$`. It refuses by `OutOfMemory` alone.
+    /// Returns the state with the document itself, at `$`. It fails with `OutOfMemory` only.
     pub fn root(alloc: Global, root: &'a T) -> Queried<Self>
         ensures content { IfOk result (λ s. content_of T.tree s.content ≡ ref (record { path = codes "$"; tree = T.tree root.now })) }
         ensures whole { IsTrue (T.is_whole root.now) → IfOk result (λ s. DataIsWhole T.is_whole s.content) }
@@ -95,8 +95,7 @@ impl<'a, T: Queryable> State<'a, T> {
         })
     }
 
-    /// The state of its document itself, as [`State::root`] makes it. It refuses by `OutOfMemory`
-    /// alone.
+    /// Returns the state of its document itself, as [`State::root`]. It fails with `OutOfMemory` only.
     pub fn shift_to_root(self, alloc: Global) -> Queried<Self>
         ensures content { IfOk result (λ s. content_of T.tree s.content
             ≡ ref (record { path = codes "$"; tree = T.tree self.entry.root.now })) }
@@ -107,7 +106,7 @@ impl<'a, T: Queryable> State<'a, T> {
         State::root(alloc, self.root)
     }
 
-    /// As [`Data::ok_ref`].
+    /// Returns the nodes as a list, as [`Data::ok_ref`].
     pub fn ok_ref(self, alloc: Global) -> Queried<Option<Vec<Pointer<'a, T>>>>
         ensures value { IfOk result (λ o. option_map (λ v. v.items) o ≡ ok_refs self.entry.content) }
         ensures memory { IfErr result (λ e. e ≡ OutOfMemory) }
@@ -115,21 +114,21 @@ impl<'a, T: Queryable> State<'a, T> {
         self.content.ok_ref(alloc)
     }
 
-    /// As [`Data::ok_val`].
+    /// Returns the owned value, as [`Data::ok_val`].
     pub fn ok_val(self) -> Option<T>
         ensures { result ≡ ok_value self.entry.content }
     {
         self.content.ok_val()
     }
 
-    /// Whether it holds nothing. A list without nodes is not nothing.
+    /// Returns whether it holds nothing. A list without nodes is not nothing.
     pub fn is_nothing(&self) -> bool
         ensures { IsTrue result ↔ (content_of T.tree self.now.content ≡ nothing) }
     {
         matches!(&self.content, Data::Nothing)
     }
 
-    /// The data of both as [`Data::reduce`] joins it, in the document of this one.
+    /// Joins the data of both as [`Data::reduce`], in the document of this one.
     pub fn reduce(self, alloc: Global, other: State<'a, T>) -> Queried<Self>
         ensures content { IfOk result (λ s. content_of T.tree s.content
             ≡ reduced (content_of T.tree self.entry.content)
@@ -151,7 +150,7 @@ impl<'a, T: Queryable> State<'a, T> {
         })
     }
 
-    /// As [`Data::flat_map`], in the same document.
+    /// Maps the data as [`Data::flat_map`], in the same document.
     pub fn flat_map<F: Fn(Pointer<'a, T>) -> Queried<Data<'a, T>> + Drop>(
         self,
         alloc: Global,
@@ -160,7 +159,7 @@ impl<'a, T: Queryable> State<'a, T> {
         requires { AllByRecursion (F.pre f) (pointers self.content) }
         ensures made { IfOk result (λ s. Made (λ p r. F.post f p (Ok r)) self.entry.content s.content) }
 
-        // What is made of whole values is whole, where what the closure makes of them is.
+        // From whole values it makes whole ones, if the closure does.
         ensures whole { GivesWhole T.is_whole (λ p r. F.post f p (Ok r)) →
             DataIsWhole T.is_whole self.entry.content →
             IfOk result (λ s. DataIsWhole T.is_whole s.content) }
@@ -174,8 +173,7 @@ impl<'a, T: Queryable> State<'a, T> {
         })
     }
 
-    /// Whether the data is equal ([`Data::equal`]) and the documents are the same
-    /// ([`Queryable::equal`]).
+    /// Returns whether the data is equal ([`Data::equal`]) and the documents are the same ([`Queryable::equal`]).
     pub fn equal(&self, other: &Self) -> bool
         requires left { DataIsWhole T.is_whole self.now.content }
         requires right { DataIsWhole T.is_whole other.now.content }
@@ -188,8 +186,7 @@ impl<'a, T: Queryable> State<'a, T> {
         self.content.equal(&other.content) && self.root.equal(other.root)
     }
 
-    /// A copy of the data, as [`Data::try_clone`] makes it, in the same document. It refuses by
-    /// `OutOfMemory` alone.
+    /// Returns a copy of the data, as [`Data::try_clone`], in the same document. It fails with `OutOfMemory` only.
     pub fn try_clone(&self, alloc: Global) -> Queried<Self>
         ensures content { DataIsWhole T.is_whole self.now.content →
             IfOk result (λ s. content_of T.tree s.content ≡ content_of T.tree self.now.content) }
@@ -204,14 +201,14 @@ impl<'a, T: Queryable> State<'a, T> {
     }
 }
 
-/// Its data.
+/// Shows the data.
 impl<'a, T: Debug> Display for State<'a, T> {
     fn fmt<W: Write>(&self, f: &mut Formatter<W>) -> fmt::Result {
         write!(f, "{}", self.content)
     }
 }
 
-/// The document itself, at `$`.
+/// Returns the document itself, at `$`.
 pub fn root_of<'a, T: Queryable>(alloc: Global, root: &'a T) -> Queried<Data<'a, T>>
     ensures value { IfOk result (λ d. content_of T.tree d ≡ ref (record { path = codes "$"; tree = T.tree root.now })) }
     ensures whole { IsTrue (T.is_whole root.now) → IfOk result (λ d. DataIsWhole T.is_whole d) }

@@ -1,5 +1,5 @@
-//! Why a walk halts. It becomes an error once, where the walk began, so that no step of it carries
-//! a text.
+//! The reasons why a walk ends with an error. One becomes a `JsonPathError` only where the walk began, so that no step
+//! of the walk carries a text.
 ghost use Rattle.std.specs.Prelude.{◌≡◌};
 ghost use Rattle.jsonpath_base.specs.Prelude.Documents.{IsInvalid, Memory, Pattern};
 ghost use Rattle.jsonpath_parser.specs.declared.errors.JsonPathError.TheVariants as error;
@@ -8,22 +8,22 @@ use crate::engine::PatternBuildError;
 use jsonpath_parser::errors::JsonPathError;
 use std::alloc::{AllocError, AllocFailed, Global};
 
-/// Why a walk halts.
+/// The reason why a walk ends with an error.
 #[derive(Clone, Copy)]
 pub enum WalkError {
     /// Memory ran out.
     Memory,
     /// `regex` refused a pattern for its size.
     Pattern,
-    /// It took as much work as it may. A walk that may take any amount never halts so.
+    /// The walk used up the units that it may spend. A walk without a limit never ends so.
     Spent,
 }
 
-/// What a step of a walk returns.
+/// The result of a step of a walk.
 pub type WalkResult<T> = Result<T, WalkError>;
 
 impl WalkError {
-    /// What a caller is told of a walk that halted; not of one that halted by `Spent`.
+    /// Returns the error for the caller of the walk. It is not called for `Spent`.
     pub fn into_error(self, alloc: Global) -> JsonPathError
         ensures memory { self ≡ Memory → result ≡ error.OutOfMemory }
         ensures pattern { (result ≡ error.OutOfMemory → ⊥) → IsInvalid result }
@@ -56,7 +56,7 @@ impl<T: Drop> From<AllocFailed<T>> for WalkError {
     }
 }
 
-/// Of calls that build a pattern.
+/// For calls that build a pattern.
 impl From<PatternBuildError> for WalkError {
     ghost use Rattle.jsonpath_base.specs.declared.pattern.build_error.PatternBuildError.TheVariants as build_error;
     ghost use Rattle.jsonpath_base.specs.declared.documents.walk_error.WalkError.TheVariants.{Memory};
@@ -71,7 +71,7 @@ impl From<PatternBuildError> for WalkError {
     }
 }
 
-/// Of calls that refuse by `OutOfMemory` alone.
+/// For calls that fail with `OutOfMemory` only.
 impl From<JsonPathError> for WalkError {
     ghost use Rattle.jsonpath_parser.specs.declared.errors.JsonPathError.TheVariants.{OutOfMemory};
     ghost use Rattle.jsonpath_base.specs.declared.documents.walk_error.WalkError.TheVariants.{Memory};

@@ -1,4 +1,5 @@
-//! Why a pattern cannot be built. It becomes an error once, where a caller is told, so that nothing before carries a text.
+//! The reasons why a pattern cannot be built. One becomes a `JsonPathError` only where it is returned to a caller, so
+//! that nothing before that carries a text.
 ghost use Rattle.std.specs.Prelude.{◌≡◌, Option};
 ghost use Rattle.jsonpath_base.specs.Prelude.{IsPatternBuildError, Re};
 ghost use Rattle.jsonpath_parser.specs.declared.errors.JsonPathError.TheVariants as error;
@@ -8,20 +9,20 @@ ghost use Rattle.jsonpath_base.specs.declared.pattern.build_error.PatternBuildEr
 use jsonpath_parser::errors::JsonPathError;
 use std::alloc::{AllocError, AllocFailed, Global};
 
-/// Why a pattern cannot be built.
+/// The reason why a pattern cannot be built.
 #[derive(Clone, Copy)]
 pub enum PatternBuildError {
     /// Memory ran out.
     Memory,
-    /// `regex` can read it and refuses it for its size.
+    /// `regex` can read the pattern and refuses it for its size.
     TooLarge,
 }
 
-/// What a call returns that has to build a pattern.
+/// The result of a call that builds a pattern.
 pub type Built<T> = Result<T, PatternBuildError>;
 
 impl PatternBuildError {
-    /// What a caller is told: `OutOfMemory`, or `InvalidJsonPath` where there is memory for its text.
+    /// Returns the error for a caller: `OutOfMemory`, or `InvalidJsonPath` if there is memory for its text.
     pub fn into_error(self, alloc: Global) -> JsonPathError
         ensures memory { self ≡ Memory → result ≡ error.OutOfMemory }
         ensures refused { (sought : Option Re) → IsPatternBuildError sought self → IsPatternRefusal sought result }

@@ -1,5 +1,7 @@
-//! What asks patterns (RFC 9535, 2.4.6 and 2.4.7). One is built when it is first asked, unless an earlier call has built it, and
-//! is then kept with what asks it: one of the query at its number, those of the document in the order in which they come.
+//! The cache of patterns of one call (RFC 9535, 2.4.6 and 2.4.7).
+//!
+//! A pattern is built when it is first needed, unless an earlier call has built it. It is then cached with its finder.
+//! Patterns of the query are cached by their numbers, those of the document in the order in which they come.
 ghost use Rattle.std.specs.Prelude.{◌≡◌, IfOk, IfErr, IfSome};
 ghost use Rattle.jsonpath_base.specs.Prelude.{IsPatternBuildError};
 ghost use Rattle.jsonpath_base.specs.Pattern.{is_entire, pattern_sought, found};
@@ -10,7 +12,7 @@ use crate::pattern::weight::{MOST_WEIGHT, building_cost, byte_cost, weight_of};
 use crate::pattern::{Finder, MatchKind, Pattern};
 use std::alloc::{AllocError, Global};
 
-/// A pattern, and what of a text it has to match.
+/// A pattern, and what has to match it.
 #[derive(Clone, Copy)]
 pub struct PatternKey<'p> {
     pub pattern: &'p str,
@@ -18,12 +20,12 @@ pub struct PatternKey<'p> {
 }
 
 impl<'p> PatternKey<'p> {
-    /// Its weight for `regex`.
+    /// Returns its weight for `regex`.
     pub fn weight(self, alloc: Global) -> Result<usize, AllocError> {
         weight_of(alloc, self.pattern)
     }
 
-    /// What `match` or `search` returns for a text. It builds the pattern anew each time.
+    /// Returns what `match` or `search` returns for a text. It builds the pattern anew each time.
     pub fn is_found(self, alloc: Global, text: &str) -> Built<bool>
         ensures value { IfOk result (λ b. b ≡ found (is_entire self.entry.extent) self.entry.pattern.now text.now) }
         ensures refused { IfErr result (IsPatternBuildError (pattern_sought (is_entire self.entry.extent) self.entry.pattern.now)) }
@@ -33,17 +35,18 @@ impl<'p> PatternKey<'p> {
     }
 }
 
-/// How many finders are kept for the patterns of a query, and for those of a document in one call. What one has worked out
-/// grows to some 10 MB.
+/// The number of finders that are cached for the patterns of a query, and for those of a document in one call. The
+/// tables of one finder grow to some 10 MB.
 const MOST_FINDERS: usize = 32;
 
-/// Cells for patterns, with what asks each of these.
+/// Slots for patterns, with the finders of these patterns.
 #[derive(Drop)]
 pub struct QueryMatchers<'p> {
     cells: &'p PatternSlots,
-    /// By the numbers of the cells. Those that were not asked yet have none, and those that gave way to a later one.
+    /// The finders, by the numbers of the slots. A slot has none if its pattern was not needed yet, or if its finder
+    /// was dropped for a later one.
     finders: Vec<Option<Box<Finder<'p>>>>,
-    /// How many are kept, and the number of the one that came last.
+    /// The number of finders, and the number of the slot whose finder was made last.
     count: usize,
     last: usize,
 }
@@ -51,7 +54,7 @@ pub struct QueryMatchers<'p> {
 impl<'p> QueryMatchers<'p> {
     ghost use Rattle.jsonpath_base.specs.Engine.{cells_of, finder_count};
 
-    /// With these cells, and nothing that asks yet. Nothing is allocated.
+    /// Returns the matchers for these slots, with no finder yet. It allocates nothing.
     #[inline(always)]
     pub fn new(alloc: Global, cells: &'p PatternSlots) -> Self
         ensures cells { cells_of result ≡ cells.entry }
@@ -65,7 +68,7 @@ impl<'p> QueryMatchers<'p> {
         }
     }
 
-    /// What the finder at this number returns for a text, if it is one of this pattern.
+    /// Returns what the finder of this number returns for a text, if it searches for this pattern.
     #[inline(always)]
     fn ask(&mut self, number: usize, text: &str, asked: PatternKey<'_>) -> Option<bool>
         ensures { IfSome result (λ b. b ≡ found (is_entire asked.entry.extent) asked.entry.pattern.now text.now) }
@@ -77,7 +80,7 @@ impl<'p> QueryMatchers<'p> {
         Some(finder.is_found(text))
     }
 
-    /// What each byte costs that is searched for this pattern, if what asks it stands at this number.
+    /// Returns what each byte of a searched text costs, if the finder of this number searches for this pattern.
     fn byte_cost(&self, number: usize, asked: PatternKey<'_>) -> Option<usize> {
         let finder = self.finders.get(number)?.as_ref()?;
         if finder.is_of(asked.pattern, asked.extent) {
@@ -86,7 +89,7 @@ impl<'p> QueryMatchers<'p> {
         None
     }
 
-    /// The first number at which this pattern is asked, or the one behind all of them.
+    /// Returns the first number whose finder searches for this pattern, or else the number after the last.
     fn number(&self, asked: PatternKey<'_>) -> usize {
         let count = self.finders.len();
         for number in 0..count {
@@ -97,8 +100,8 @@ impl<'p> QueryMatchers<'p> {
         count
     }
 
-    /// Makes room for one more finder: where there are too many, the one that came last gives way, so that of patterns asked in
-    /// turn most keep theirs.
+    /// Makes room for one more finder. Where there are too many, it drops the one that was made last, so that of
+    /// patterns that are needed in turn most keep theirs.
     fn make_room(&mut self) {
         if self.count < MOST_FINDERS {
             self.count += 1;
@@ -107,7 +110,7 @@ impl<'p> QueryMatchers<'p> {
         }
     }
 
-    /// Makes what asks the pattern of this number, if it is this one, or none was built there yet.
+    /// Makes the finder of this number for the pattern, if its slot holds this pattern or is empty.
     fn make(&mut self, alloc: Global, number: usize, asked: PatternKey<'_>) -> Built<()>
         ensures { IfErr result (IsPatternBuildError (pattern_sought (is_entire asked.entry.extent) asked.entry.pattern.now)) }
     {
@@ -127,7 +130,7 @@ impl<'p> QueryMatchers<'p> {
         }
     }
 
-    /// Keeps at this number what asks this pattern.
+    /// Stores a finder for this pattern at this number.
     fn store(
         &mut self,
         alloc: Global,
@@ -147,22 +150,23 @@ impl<'p> QueryMatchers<'p> {
     }
 }
 
-/// What asks the patterns of a call.
+/// The patterns of a call, with their finders.
 #[derive(Drop)]
 pub struct PatternCache<'s, 'p> {
-    /// Those that stand in the query. What asks them outlasts the call, if it is handed on.
+    /// The patterns of the query. Their finders can outlast the call.
     pub query: QueryMatchers<'p>,
-    /// The cells of those that come from the document, and what asks them, once there is one.
+    /// The slots of the patterns that come from the document, and their finders, once there is one.
     cells: &'s DocumentPatternSlots,
     document_matchers: Option<QueryMatchers<'s>>,
-    /// The number of that which was asked last.
+    /// The number of the document's pattern that was needed last.
     last: usize,
-    /// What they weigh together.
+    /// The sum of the weights of the document's patterns.
     weight: usize,
 }
 
 impl<'s, 'p> PatternCache<'s, 'p> {
-    /// With what asks those of the query so far, and these cells for those that come from the document. Nothing is allocated.
+    /// Returns the cache with the matchers of the query, and these slots for patterns that come from the document. It
+    /// allocates nothing.
     #[inline(always)]
     pub fn new(query: QueryMatchers<'p>, cells: &'s DocumentPatternSlots) -> Self
         ensures { result.query ≡ query.entry }
@@ -176,10 +180,10 @@ impl<'s, 'p> PatternCache<'s, 'p> {
         }
     }
 
-    /// What `match` or `search` returns for a text and a pattern. It refuses where [`Pattern::new`] does. A number tells
-    /// only where to look: where there is no such cell, or another pattern was built in it, the pattern is asked as one that
-    /// comes from the document. Of these the first 32 are kept, but none that brings their weights above [`MOST_WEIGHT`]. One
-    /// that is not kept is built at each use.
+    /// Returns what `match` or `search` returns for a text and a pattern. It fails where [`Pattern::new`] does. A
+    /// number only says where to look: where it has no slot, or the slot holds another pattern, the pattern is treated
+    /// as one that comes from the document. Of these the first 32 are cached, except those that bring the sum of the
+    /// weights above [`MOST_WEIGHT`]. A pattern that is not cached is built at each use.
     pub fn is_found(
         &mut self,
         alloc: Global,
@@ -209,8 +213,8 @@ impl<'s, 'p> PatternCache<'s, 'p> {
         }
     }
 
-    /// What it costs to ask that, in units of work, beside one for each byte: what the search takes, and what building the
-    /// pattern takes where what asks it is not kept.
+    /// Returns what such a search costs, in units of work beside one for each byte: what the search takes, and what
+    /// building the pattern takes if it is not cached.
     pub fn cost(
         &self,
         alloc: Global,
@@ -225,7 +229,7 @@ impl<'s, 'p> PatternCache<'s, 'p> {
         Ok(search.saturating_add(building_cost(alloc, asked.pattern)?))
     }
 
-    /// What each byte costs that is searched for this pattern, if what asks it is kept.
+    /// Returns what each byte of a searched text costs, if the finder of this pattern is cached.
     fn cached_byte_cost(&self, asked: PatternKey<'_>, origin: Origin) -> Option<usize> {
         if let Origin::Query(number) = origin {
             if let Some(each) = self.query.byte_cost(number, asked) {
@@ -239,7 +243,8 @@ impl<'s, 'p> PatternCache<'s, 'p> {
         }
     }
 
-    /// What the finder at this number among those of the document returns for a text, if it is one of this pattern.
+    /// Returns what the finder of this number returns for a text, among those of the document, if it searches for this
+    /// pattern.
     #[inline(always)]
     fn ask_document(&mut self, number: usize, text: &str, asked: PatternKey<'_>) -> Option<bool>
         ensures { IfSome result (λ b. b ≡ found (is_entire asked.entry.extent) asked.entry.pattern.now text.now) }
@@ -249,7 +254,7 @@ impl<'s, 'p> PatternCache<'s, 'p> {
         Some(found)
     }
 
-    /// The number of a pattern among those of the document. One that is not among them is kept there, if it can be.
+    /// Returns the number of a pattern among those of the document. A new pattern is cached there, if it can be.
     fn document_number(&mut self, alloc: Global, asked: PatternKey<'_>) -> Built<usize>
         ensures { IfErr result (IsPatternBuildError (pattern_sought (is_entire asked.entry.extent) asked.entry.pattern.now)) }
     {

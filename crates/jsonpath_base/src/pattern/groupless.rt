@@ -1,5 +1,5 @@
-//! Regexes that are built without the groups of their patterns. Whether there is a match does not depend on them, and the
-//! kit's tables have room for each group at each place of a pattern.
+//! Builds regexes without the groups of their patterns. Groups make no difference to whether there is a match, but the
+//! tables of `regex` have room for each group at each place of a pattern.
 ghost use Rattle.std.specs.Prelude.{◌≡◌, map, is_some, chars, IfOk, IfErr};
 ghost use Rattle.regex.specs.Patterns.{find_str};
 ghost use Rattle.regex.specs.Utf8.{MatchesText};
@@ -15,7 +15,7 @@ use regex_meta::{Program, Searcher};
 use regex_syntax::{Config, ErrorKind, Parsed, parse};
 use std::alloc::{AllocError, Global};
 
-/// About how many bytes the tables of one may take, as for a regex of the kit.
+/// The number of bytes, about, that the tables of one regex may take. `regex` has the same limit.
 const MOST_BYTES: usize = 10 << 20;
 
 /// A pattern that was read and built.
@@ -28,7 +28,7 @@ pub struct Regex {
 impl Regex {
     ghost use Rattle.jsonpath_base.specs.inner.PatternParts.{FindsSame, regex_pattern, matcher_pattern};
 
-    /// The regex of a text, or None where it has no reading.
+    /// Returns the regex of a text, or None where `regex` cannot read it.
     pub fn new(alloc: Global, text: &str) -> Built<Option<Regex>>
         ensures same { IfOk result (FindsSame (reading (chars text.now))) }
         ensures refused { IfErr result (IsPatternBuildError (reading (chars text.now))) }
@@ -44,7 +44,7 @@ impl Regex {
         }
     }
 
-    /// What searches for it.
+    /// Returns a matcher, which searches for the pattern.
     pub fn matcher(&self, alloc: Global) -> Result<Matcher<'_>, AllocError>
         ensures pattern { IfOk result (λ m. matcher_pattern m ≡ regex_pattern self.now) }
     {
@@ -53,7 +53,7 @@ impl Regex {
     }
 }
 
-/// What searches for a pattern.
+/// Searches for a pattern.
 #[derive(Drop)]
 pub struct Matcher<'r> {
     searcher: Searcher<'r>,
@@ -63,12 +63,12 @@ pub struct Matcher<'r> {
 impl<'r> Matcher<'r> {
     ghost use Rattle.jsonpath_base.specs.inner.PatternParts.{matcher_pattern};
 
-    /// Whether the pattern matches somewhere in the text.
+    /// Returns whether the pattern matches somewhere in the text.
     pub fn is_match(&mut self, text: &str) -> bool
         ensures found { result ≡ is_some (find_str (matcher_pattern self.old) text.now 0) }
         ensures same { matcher_pattern self.new ≡ matcher_pattern self.old }
     {
-        // a match that is not empty starts with a whole character
+        // A match that is not empty starts at the start of a character.
         if self.searcher.program.min_len > 0 {
             self.searcher.is_match(text.as_bytes(), 0)
         } else {
@@ -76,7 +76,7 @@ impl<'r> Matcher<'r> {
         }
     }
 
-    /// The same, where an empty match may lie inside a character.
+    /// Returns whether the pattern matches, where an empty match may be inside a character.
     fn is_match_between_characters(&mut self, text: &str) -> bool
         ensures found { result ≡ is_some (find_str (matcher_pattern self.old) text.now 0) }
         ensures same { matcher_pattern self.new ≡ matcher_pattern self.old }
@@ -95,7 +95,7 @@ impl<'r> Matcher<'r> {
     }
 }
 
-/// The tree of a text without its groups, or None where it has no reading.
+/// Returns the tree of a text without its groups, or None where `regex` cannot read it.
 fn tree_of(alloc: Global, text: &str) -> Built<Option<Hir>>
     ensures same { IfOk result (IsTreeOf (reading (chars text.now))) }
     ensures refused { IfErr result (IsPatternBuildError (reading (chars text.now))) }

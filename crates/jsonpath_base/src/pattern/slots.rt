@@ -1,23 +1,23 @@
-//! Where the patterns of `match` and `search` are built (RFC 9535, 2.4.6 and 2.4.7).
+//! The slots where the patterns of `match` and `search` are built (RFC 9535, 2.4.6 and 2.4.7).
 ghost use Rattle.std.specs.Prelude.{◌≡◌, IfOk};
 
 use crate::pattern::Pattern;
 use std::alloc::{AllocError, Global};
 use std::cell::OnceCell;
 
-/// Where a pattern comes from.
+/// Says where a pattern comes from.
 #[derive(Clone, Copy)]
 pub enum Origin {
-    /// It is the one of this number among those that stand in the query.
+    /// The query, where it has this number.
     Query(usize),
-    /// It is a value of the document, or one that stands in the query and has no number.
+    /// The document, or the query, where it has no number.
     Document,
 }
 
-/// Holds one pattern. It is built once, and then stays.
+/// A slot for one pattern, which is built once and then stays.
 pub type PatternSlot = OnceCell<Box<Pattern>>;
 
-/// Cells for patterns, by number. What is built there stays as long as they do.
+/// Slots for patterns, by number. A pattern lives as long as its slot.
 #[derive(Drop)]
 pub struct PatternSlots {
     cells: Vec<PatternSlot>,
@@ -26,7 +26,7 @@ pub struct PatternSlots {
 impl PatternSlots {
     ghost use Rattle.jsonpath_base.specs.Engine.{cell_count};
 
-    /// So many, all empty.
+    /// Returns `count` empty slots.
     pub fn new(alloc: Global, count: usize) -> Result<Self, AllocError>
         ensures { IfOk result (λ made. cell_count made ≡ count) }
     {
@@ -37,25 +37,25 @@ impl PatternSlots {
         Ok(PatternSlots { cells })
     }
 
-    /// The one of this number.
+    /// Returns the slot of this number.
     #[inline(always)]
     pub(crate) fn cell(&self, number: usize) -> Option<&PatternSlot> {
         self.cells.get(number)
     }
 }
 
-/// The cells of one call for patterns that come from the document.
+/// The slots of one call for patterns that come from the document.
 #[derive(Drop)]
 pub struct DocumentPatternSlots {
-    /// None are made before the first is asked for.
+    /// The slots, which are made when the first is needed.
     cells: OnceCell<PatternSlots>,
 }
 
-/// How many there are.
+/// The number of these slots.
 const MOST_LENT: usize = 32;
 
 impl DocumentPatternSlots {
-    /// All empty. Nothing is allocated.
+    /// Returns empty slots. It allocates nothing.
     #[inline(always)]
     pub fn new() -> Self {
         DocumentPatternSlots {
@@ -63,7 +63,7 @@ impl DocumentPatternSlots {
         }
     }
 
-    /// The cells. The first call makes them.
+    /// Returns the slots. The first call makes them.
     pub(crate) fn made(&self, alloc: Global) -> Result<Option<&PatternSlots>, AllocError> {
         if self.cells.get().is_none() {
             let cells = PatternSlots::new(alloc, MOST_LENT)?;

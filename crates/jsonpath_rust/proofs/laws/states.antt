@@ -5,7 +5,7 @@ pub mod Lies
 pub mod PartEffort
 pub mod ProcessedLaws
 pub mod Steps
-pub mod PatternCache
+pub mod Finding
 pub mod Contents
 pub mod Parents
 pub mod Meant

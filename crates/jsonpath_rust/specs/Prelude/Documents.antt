@@ -1,4 +1,4 @@
--- What contracts and proofs name of whole values inside the evaluators, and of the types of jsonpath_base. Nothing is declared here.
+-- The names of whole values inside the evaluators, and of the types of jsonpath_base, for contracts and proofs. Nothing is declared here.
 pub use Rattle.jsonpath_rust.specs.declared.documents.whole.WholeRef.{WholeRef}
 pub use Rattle.jsonpath_rust.specs.documents.inner.FilterValues.{arg_trees, filter_value_tree, scalar_tree, filter_ref_tree}
 pub use Rattle.jsonpath_rust.specs.documents.Whole.{document_at, own_tree, tree_of}

@@ -1,4 +1,4 @@
--- What contracts and proofs name of the walk and of its plan. Nothing is declared here.
+-- The names of the walk and of its plan, for contracts and proofs. Nothing is declared here.
 pub use Rattle.jsonpath_rust.specs.declared.selection.limits.WorkLimit.{WorkLimit}
 pub use Rattle.jsonpath_rust.specs.declared.selection.limits.WorkLimit.TheVariants.{Limited, Unlimited}
 pub use Rattle.jsonpath_rust.specs.declared.selection.constants.Cache.{Cache}

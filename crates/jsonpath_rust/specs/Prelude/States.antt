@@ -1,4 +1,4 @@
--- What contracts and proofs name of the plain evaluator and of `process`. Nothing is declared here.
+-- The names of the evaluator of states and of `process`, for contracts and proofs. Nothing is declared here.
 pub use Rattle.jsonpath_base.specs.declared.documents.state.data.Data.{Data}
 pub use Rattle.jsonpath_base.specs.declared.documents.state.data.Data.TheVariants.{Nothing, Ref, Refs, Value}
 pub use Rattle.jsonpath_base.specs.declared.documents.state.pointer.Pointer.{Pointer}

@@ -21,22 +21,22 @@ abbrev pub segment_filter : Segment → Option Filter
 segment_filter (one (syntax.Selector.filter f)) = Some f
 segment_filter _ = None
 
--- the expression of a query `$[?e]`, and none of another
+-- the expression of a query `$[?e]`, or none for another query
 abbrev pub filter_of : Query → Option Filter
 filter_of (segment g no_segments) = segment_filter g
 filter_of _ = None
 
--- the same, and for others one that never holds
+-- the same, but for another query an expression that never holds
 abbrev pub expression_of : Query → Filter
 expression_of q = unwrap_or (filter_of q) (or no_filters)
 
--- a test of a singular query, also behind `!`: no more is looked up than the names and indexes that the query has
+-- a test of a singular query, with or without `!`: it looks up no more than the names and indexes of the query
 abbrev pub tests_singular : Filter → Bool
 tests_singular (test negated t) = is_singular_test t
 tests_singular _ = false
 
--- The refusals of a text, each with what it means: it nests no deeper than the limit and is no one expression, and the place stands between two characters of it
--- or at an end of it; memory ran out; all others are those of the query text `$[?e]`.
+-- The errors for a text, each with what it means: the text nests no deeper than the limit and is no one expression, and the place is between two
+-- characters of it or at an end of it; memory ran out; all others are those of the query text `$[?e]`.
 abbrev pub IsConditionRefusal : ℕ → List ℕ → JsonPathError → Type 0
 IsConditionRefusal limit text (PestError place) = (depth (in_filter text) ≤ limit) × IsCharBoundary text place × ((f : Filter) → SpellsTyped (in_filter text) (filter_query f) → ⊥)
 IsConditionRefusal limit text OutOfMemory = ⊤

@@ -13,23 +13,23 @@ use Rattle.jsonpath_base.specs.declared.documents.queryable.Queryable.{Ghosts}
 use Rattle.jsonpath_rust.specs.declared.selection.sink.Only.{Only}
 use Rattle.jsonpath_rust.specs.declared.selection.sink.Only.TheVariants.{Nothing, One, Several}
 
--- What is told of the only node: the query selects nothing; or one location alone, whose node this is; or several. A location that is
--- selected twice is two nodes (RFC 9535, 2.1.2).
+-- The answer about the only node: the query selects nothing; or one location alone, whose node this is; or several. A location that is selected twice
+-- is two nodes (RFC 9535, 2.1.2).
 abbrev pub IsOnly : {A : Type 0} → (A → Tree) → Query → Document → Only A → Type 0
 IsOnly tree q doc Nothing = selected q doc ≡ []
 IsOnly tree q doc (One n) = (l : Location) × (selected q doc ≡ l ∷ []) × IsNodeAt doc l (string_bytes n.path, tree n.val.now)
 IsOnly tree q doc Several = (l m : Location) × (rest : List Location) × (selected q doc ≡ l ∷ m ∷ rest)
 
--- the node, where there is one alone
+-- the node, if there is one alone
 abbrev pub sole_node : {A : Type 0} → Only A → Option (QueryRef A)
 sole_node (One n) = Some n
 sole_node _ = None
 
--- how many nodes the query selects, up to the greatest whole number of 64 bits
+-- the number of nodes that the query selects, up to the greatest integer of 64 bits
 abbrev pub node_count : Query → Document → ℕ
 node_count q doc = min (length (selected q doc)) greatest_count
 
--- ---- what a call returns of a query; `r` is what the type of the document is
+-- ---- what a call returns for a query; `r` is what the type of the document is
 
 pub record IsFirst {A : Type 0} (r : Ghosts A) (doc : Document) (q : Query) (o : Option (QueryRef A)) : Type 0 where
   pub first : IfSome o (λ n. IsFirstNode q doc (string_bytes n.path, r.tree n.val.now))

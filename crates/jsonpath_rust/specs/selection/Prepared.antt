@@ -1,4 +1,4 @@
--- What a prepared query, a condition and their runners ask, and the first node of a query.
+-- The query of a prepared query, of a condition and of their runners, and the first node of a query.
 use Rattle.std.specs.Prelude.{◌≡◌, ℕ, List, ◌∷◌}
 use Rattle.jsonpath_parser.specs.Location.{Location}
 use Rattle.jsonpath_parser.specs.tree.Syntax.{Filter, Query}
@@ -10,12 +10,12 @@ use Rattle.jsonpath_base.specs.documents.Meaning.{selected}
 use Rattle.jsonpath_rust.specs.selection.Condition.{expression_of}
 use Rattle.jsonpath_rust.specs.declared.selection.condition.Condition.{Condition}
 use Rattle.jsonpath_rust.specs.declared.selection.condition.ConditionRunner.{ConditionRunner}
-use Rattle.jsonpath_rust.specs.declared.selection.runner.Planned.{Planned}
+use Rattle.jsonpath_rust.specs.declared.selection.prepared.Planned.{Planned}
 use Rattle.jsonpath_rust.specs.declared.selection.prepared.Prepared.{Prepared}
 use Rattle.jsonpath_rust.specs.declared.selection.prepared.PreparedRef.{PreparedRef}
 use Rattle.jsonpath_rust.specs.declared.selection.runner.Runner.{Runner}
 
--- the query that is asked
+-- the query that is run
 abbrev pub prepared_view : Prepared → Query
 prepared_view p = query_view p.query
 
@@ -25,18 +25,18 @@ prepared_ref_view p = query_view p.query.now
 abbrev pub planned_view : Planned → Query
 planned_view p = query_view p.query.now
 
--- of a runner, under whatever limit
+-- that of a runner, with any limit
 abbrev pub runner_view : {L S : Type 0} → Runner L S → Query
 runner_view r = planned_view r.planned
 
--- the expression that a condition asks; each is of a query `$[?e]`
+-- the expression that a condition evaluates; each is of a query `$[?e]`
 abbrev pub condition_view : Condition → Filter
 condition_view c = expression_of (prepared_view c.prepared)
 
 abbrev pub condition_runner_view : {L S : Type 0} → ConditionRunner L S → Filter
 condition_runner_view r = expression_of (runner_view r.runner)
 
--- what is shown is the node at the first location that the query selects
+-- this is the path and the tree of the node at the first location that the query selects
 pub record IsFirstNode (q : Query) (doc : Document) (shown : List ℕ × Tree) : Type 0 where
   pub location : Location
   pub rest : List Location

@@ -1,4 +1,4 @@
--- Which patterns a part of a query asks on a state, and at which values: what a refusal of `process` means.
+-- Which patterns a part of a query asks on a state, and at which values: what an error of `process` means.
 use Rattle.std.specs.Prelude.{◌≡◌, ◌⊎◌, List, ◌∷◌, map, Bool, Some}
 use Rattle.std.specs.List.{Contains}
 use Rattle.jsonpath_parser.specs.Location.{Location}
@@ -13,7 +13,7 @@ use Rattle.jsonpath_base.specs.documents.Patterns.{IsPattern}
 use Rattle.jsonpath_rust.specs.states.Process.{plain, argument_content}
 use Rattle.jsonpath_base.specs.documents.State.{Content, targets, inside}
 
--- the trees in which the nodes of a state lie: that of the document, and those of its nodes
+-- the trees in which the nodes of a state are: that of the document, and those of its nodes
 abbrev pub tops : Document → Content → List Tree
 tops d c = d.root ∷ map (λ p. p.tree) (targets c)
 
@@ -30,7 +30,7 @@ pub record IsBelow (d : Document) (c s : Content) : Type 0 where
 abbrev pub IsAsked : Document → Content → Content → Type 0
 IsAsked d c s = (s ≡ c) ⊎ IsBelow d c s
 
--- One of these patterns has, at one of these states, a value that is a text which `regex` reads.
+-- One of these patterns has, at one of these states, a value that is a text that `regex` reads.
 pub record AsksPatternAt (patterns : List (Bool × Argument)) (d : Document) (States : Content → Type 0) : Type 0 where
   pub entire : Bool
   pub pattern : Argument

@@ -1,5 +1,5 @@
--- What `process` answers on a state, for each part of a query. It has a value on every state and every tree, also where the typing of RFC 9535,
--- 2.4.3 refuses the tree. Where the typing takes the tree, the nodes from the root are those that Meaning selects: a law, in Processed.
+-- What `process` returns on a state, for each part of a query. It has a value on every state and every tree, also if the tree is ill-typed (RFC 9535,
+-- 2.4.3). If the tree is well-typed, the nodes from the root are those that Meaning selects: a law, in Processed.
 use Rattle.std.specs.Prelude.{List, [], ◌∷◌, ◌++◌, length, map, Bool, true, false, not, ◌&&◌, ◌||◌, Option, Some, None}
 use Rattle.jsonpath_parser.specs.tree.Making.{is_truth_call}
 use Rattle.jsonpath_parser.specs.tree.Syntax as syntax
@@ -34,7 +34,7 @@ abbrev pub values_same : Option Tree → Option Tree → Bool
 values_same (Some t) (Some u) = same t u
 values_same _ _ = false
 
--- nodes and nodes by their values and paths; a node and nodes as a list and its elements, and not the other way round
+-- nodes and nodes by their values and paths; a node and nodes as a list and its elements, but not the other way round
 abbrev pub contents_equal : Content → Content → Bool
 contents_equal (refs ps) (refs qs) = targets_same ps qs
 contents_equal (ref p) (refs qs) = lists_targets p.tree qs
@@ -83,7 +83,7 @@ content_trees nothing = []
 
 -- ---- tests (2.3.5.2.1)
 
--- the truth that a logical expression answered: of a value of its own
+-- the truth of a logical expression: that of an owned value
 abbrev pub is_truth : Content → Bool
 is_truth (value t) = is_true (Some t)
 is_truth _ = false
@@ -92,7 +92,7 @@ abbrev pub has_target : List Target → Bool
 has_target [] = false
 has_target (p ∷ ps) = true
 
--- a call that answers a truth answers it, turned round behind `!`; what else is tested exists or not
+-- the truth of a call that returns one, negated after `!`; for any other test, whether it has a result
 abbrev pub test_truth : Bool → Bool → Content → Content
 test_truth turn false c = value (truth (negated turn (has_target (targets c))))
 test_truth true true c = value (truth (not (is_truth c)))
@@ -100,7 +100,7 @@ test_truth false true c = c
 
 -- ---- the parts of a query
 
--- no selectors make nothing of any state
+-- no selectors select nothing on any state
 abbrev pub unless_none : Selectors → Content → Content
 unless_none no_selectors c = nothing
 unless_none (selector s ss) c = c
@@ -113,7 +113,7 @@ abbrev mutual
   selector_content (slice start end step) d c = mapped (sliced_from start end step) c
   selector_content (syntax.Selector.filter f) d c = mapped (kept_from (holds_at f d)) c
 
-  -- each selector at a node, joined from the left behind what there is
+  -- each selector at a node, joined from the left to what there is
   pub joined_from : Selectors → Document → Content → Target → Content
   joined_from no_selectors d c p = c
   joined_from (selector s ss) d c p = joined_from ss d (reduced c (selector_content s d (ref p))) p
@@ -169,7 +169,7 @@ abbrev mutual
 abbrev pub filter_content : Filter → Document → Content → Content
 filter_content f d c = mapped (kept_from (holds_at f d)) c
 
--- an operand of `&&` by itself: a call that gives a truth, without `!`, answers what it returns, each other operand its truth
+-- an operand of `&&` by itself: what a call returns that returns a truth, without `!`, and the truth of each other operand
 abbrev pub basic_content : Filter → Document → Content → Content
 basic_content (test t q) d c = test_truth t (is_truth_call q) (test_content q d c)
 basic_content f d c = value (truth (holds_at f d c))

@@ -1,4 +1,4 @@
--- What `process` answers of a whole query.
+-- What `process` returns for a whole query.
 use Rattle.std.specs.Prelude.{◌≡◌, ℕ, List, map, IsTrue}
 use Rattle.jsonpath_parser.specs.Normal.{normal}
 use Rattle.jsonpath_parser.specs.tree.Syntax.{Query}
@@ -9,11 +9,11 @@ use Rattle.jsonpath_base.specs.documents.Meaning.{nodelist}
 use Rattle.jsonpath_rust.specs.states.Process.{segments_content}
 use Rattle.jsonpath_base.specs.documents.State.{targets, root_content}
 
--- What is shown of each node that `process` of the query answers from the root: the text of its path, and its tree. On a tree that the
--- typing of RFC 9535, 2.4.3 refuses this need not be what Meaning selects.
+-- The path and the tree of each node that `process` of the query returns from the root. For an ill-typed tree (RFC 9535, 2.4.3) these need not be the
+-- nodes that Meaning selects.
 abbrev pub processed : Query → Document → List (List ℕ × Tree)
 processed q doc = map (λ p. (p.path, p.tree)) (targets (segments_content q doc (root_content doc)))
 
--- Where the typing takes the query, these are the nodes that it selects (2.1.2), in order, under their Normalized Paths (2.7).
+-- If the query is well-typed, these are the nodes that it selects (2.1.2), in order, with their Normalized Paths (2.7).
 abbrev pub ProcessGivesTheNodelist : Type 0
 ProcessGivesTheNodelist = (q : Query) (doc : Document) → IsTrue (is_typed q) → processed q doc ≡ map (λ n. (normal n.location, n.tree)) (nodelist q doc)

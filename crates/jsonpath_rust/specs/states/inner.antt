@@ -1,2 +1,2 @@
--- What the crate's own contracts and proofs say. Nothing here is part of what a query means.
+-- The definitions for the crate's own contracts and proofs. Nothing here is part of what a query means.
 pub mod Evaluating

@@ -1,4 +1,4 @@
-//! What is changed in a whole `Value`.
+//! The changes of a whole `Value`.
 ghost use Rattle.std.specs.Prelude.{◌≡◌, false, IfErr, IfOk, is_some, map, OnErr, OnOk, option_map};
 ghost use Rattle.jsonpath_base.specs.Prelude.Documents.{distinct_count, HasIndexesInRange, is_among, IsNormal, IsPut, IsReplaced, Location, location_view, null, OutOfMemory, overwritten, owned_step, put, value_document, value_tree, view, without};
 ghost use Rattle.jsonpath_rust.specs.Prelude.Calls.{ByText, Deletion, DeletionAt, Replacement, ReplacementAt};
@@ -14,12 +14,12 @@ use serde_json::Value;
 use std::alloc::Global;
 
 impl Whole<Value> {
-    /// Puts a value at the one location that a path of names and indexes means, as [`replace_by_path`].
+    /// Replaces the value at the one location that a path of names and indexes means, as [`replace_by_path`].
     pub fn replace_by_path(&mut self, alloc: Global, path: &str, new: Whole<Value>) -> Queried<bool>
         ensures replaced { IfOk result (λ found. IsReplaced path.now (value_document self.old.value)
             (value_tree new.value) found (value_tree self.new.value)) }
 
-        // The Normalized Path of a location means that location, wherever something is there.
+        // The Normalized Path of a location means that location, wherever there is a value.
         ensures normal { (l : Location) → IsNormal l path.now → HasIndexesInRange l →
             IfOk result (λ found. IsPut l (value_tree self.old.value) (value_tree new.value) found
             (value_tree self.new.value)) }
@@ -29,7 +29,7 @@ impl Whole<Value> {
         replace_by_path(alloc, &mut self.value, path, new.value)
     }
 
-    /// Puts a value at the location of these steps, as [`put_at`].
+    /// Replaces the value at the location of these steps, as [`put_at`].
     pub fn put_at(&mut self, steps: &[Step], new: Whole<Value>) -> bool
         ensures value { value_tree self.new.value ≡ put (location_view steps.now) (value_tree new.value) (value_tree self.old.value) }
         ensures found { result ≡ is_some (places.at (location_view steps.now) (value_tree self.old.value)) }
@@ -59,7 +59,7 @@ impl Whole<Value> {
     /// Takes the value at the location of these steps, and leaves null there, as [`take_at`].
     pub fn take_at(&mut self, place: &[Step]) -> Option<Whole<Value>>
         ensures taken { option_map (λ w. value_tree w.value) result ≡ places.at (location_view place.now) (value_tree self.old.value) }
-        ensures left { value_tree self.new.value ≡ put (location_view place.now) null (value_tree self.old.value) }
+        ensures remaining { value_tree self.new.value ≡ put (location_view place.now) null (value_tree self.old.value) }
     {
         match take_at(&mut self.value, place) {
             Some(value) => Some(Whole { value }),
@@ -67,7 +67,7 @@ impl Whole<Value> {
         }
     }
 
-    /// Removes all locations that a query text selects, at once, as [`delete_within`] at a depth of 128.
+    /// Removes all locations that a query text selects, at once, as [`delete_within`] with a depth of 128.
     pub fn delete_by_path(&mut self, alloc: Global, path: &str) -> Queried<usize>
         ensures deleted { ByText MAX_NESTING_DEPTH path.now (value_document self.old.value) (Deletion (value_tree self.new.value))
             (DeletionAt (value_tree self.new.value)) result }
@@ -113,7 +113,8 @@ impl Whole<Value> {
         replace_within(alloc, &mut self.value, path, depth, &new.value)
     }
 
-    /// The same, as [`replace_all_by_path`], at a depth of 128.
+    /// Puts a copy of `new` at all locations that a query text selects, at once, as [`replace_all_by_path`], with a
+    /// depth of 128.
     pub fn replace_all_by_path(
         &mut self,
         alloc: Global,

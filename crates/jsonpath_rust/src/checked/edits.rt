@@ -1,4 +1,4 @@
-//! What a runner, under whatever limit, changes in a whole `Value`.
+//! The changes of a whole `Value` by a runner, with any limit.
 ghost use Rattle.std.specs.Prelude.{◌≡◌, OnErr};
 ghost use Rattle.jsonpath_base.specs.Prelude.Documents.{value_document, value_tree};
 ghost use Rattle.jsonpath_rust.specs.Prelude.Selection.{runner_view};
@@ -10,12 +10,12 @@ use serde_json::Value;
 use std::alloc::Global;
 
 impl Whole<Value> {
-    /// Removes all locations that the runner's query selects, at once and each by its original place, and returns how
-    /// many distinct ones there are, as [`delete_within`] does.
+    /// Removes all locations that the runner's query selects, at once and each by its original place, and returns the
+    /// number of distinct ones, as [`delete_within`] does.
     ///
     /// # Errors
     ///
-    /// Those of each call of a [`Runner`]; after any of them the document is as it was.
+    /// Those of each call of a [`Runner`]. After any of them the document is as it was.
     ///
     /// [`delete_within`]: crate::query::delete_within
     pub fn delete<L: Limit>(
@@ -30,12 +30,12 @@ impl Whole<Value> {
         runner.delete(alloc, &mut self.value)
     }
 
-    /// Puts a copy of `new` at all locations that the runner's query selects, at once, and returns how many distinct
-    /// ones there are, as [`replace_within`] does. The size of the copies is not limited.
+    /// Puts a copy of `new` at all locations that the runner's query selects, at once, and returns the number of
+    /// distinct ones, as [`replace_within`] does. The size of the copies is not limited.
     ///
     /// # Errors
     ///
-    /// Those of each call of a [`Runner`]; after any of them the document is as it was.
+    /// Those of each call of a [`Runner`]. After any of them the document is as it was.
     ///
     /// [`replace_within`]: crate::query::replace_within
     pub fn replace<L: Limit>(

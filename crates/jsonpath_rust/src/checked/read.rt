@@ -1,4 +1,4 @@
-//! Reading a document from a text.
+//! Reads a document from a text.
 ghost use Rattle.std.specs.Prelude.{◌≡◌, IfErr, IfOk, Some};
 ghost use Rattle.jsonpath_base.specs.Prelude.Documents.{view};
 ghost use Rattle.serde_json.specs.Read.{read as read_text};
@@ -10,13 +10,13 @@ use serde_json::Value;
 use std::alloc::Global;
 use thiserror::Error;
 
-/// Why a text gives no document.
+/// The reason why a text is no document.
 #[derive(Debug, Drop, PartialEq, Error)]
 pub enum ReadError {
     /// The text is not JSON.
     #[error("the text is not JSON")]
     NotJson,
-    /// The document holds a number that is no whole number of 64 bits.
+    /// The document has a number that is not an integer of 64 bits.
     #[error("the document holds a number that is no whole number of 64 bits")]
     NotWhole,
     /// Memory ran out.
@@ -25,12 +25,12 @@ pub enum ReadError {
 }
 
 impl Whole<Value> {
-    /// What `serde_json` reads of a text, if it is whole. The time is linear in the text.
+    /// Returns what `serde_json` reads of a text, if it is whole. It takes time linear in the text.
     ///
     /// # Errors
     ///
     /// - `NotJson` where `serde_json` reads nothing.
-    /// - `NotWhole` where a number in it is no whole number of 64 bits.
+    /// - `NotWhole` where a number in it is not an integer of 64 bits.
     /// - `Memory` where memory ran out.
     pub fn read(alloc: Global, text: &str) -> Result<Self, ReadError>
         ensures read { IfOk result (λ w. read_text text.now ≡ Some (view w.value)) }

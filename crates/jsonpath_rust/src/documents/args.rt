@@ -1,4 +1,4 @@
-//! The arguments of a custom function (RFC 9535, 2.4), each whole.
+//! The arguments of a custom function (RFC 9535, 2.4). Each is whole.
 ghost use Rattle.std.proofs.Props.{props};
 ghost use Rattle.std.specs.Prelude.{◌≡◌, ◌++◌, [], ◌∷◌, map, All, IsTrue, OnOk};
 ghost use Rattle.jsonpath_base.specs.documents.Args.{arg_value};
@@ -16,7 +16,7 @@ pub struct Args<'a, T: Queryable> {
 }
 
 impl<'a, T: Queryable> Args<'a, T> {
-    /// None.
+    /// Returns an empty list of arguments.
     pub fn new(alloc: Global) -> Self
         ensures { result.list.items ≡ [] }
     {
@@ -34,7 +34,7 @@ impl<'a, T: Queryable> Args<'a, T> {
         Ok(())
     }
 
-    /// Adds a value of its own.
+    /// Adds an owned value.
     pub fn push_made(&mut self, value: Whole<T>) -> Result<(), AllocError>
         ensures { OnOk result (map (λ a. T.tree (arg_value a)) self.new.list.items
             ≡ map (λ a. T.tree (arg_value a)) self.old.list.items ++ own_tree value ∷ []) }

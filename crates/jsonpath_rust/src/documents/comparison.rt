@@ -1,4 +1,4 @@
-//! How values compare (RFC 9535, 2.3.5.2.2).
+//! The comparison of values in a filter (RFC 9535, 2.3.5.2.2).
 ghost use Rattle.std.specs.Prelude.{◌≡◌};
 ghost use Rattle.jsonpath_base.specs.Prelude.Documents.{are_equal, compares, is_below, operator_view, same};
 ghost use Rattle.jsonpath_rust.specs.Prelude.Documents.{scalar_tree, filter_ref_tree, tree_of};
@@ -9,7 +9,7 @@ use crate::documents::whole::{Whole, WholeRef};
 use jsonpath_base::text_less;
 use jsonpath_parser::model::Operator;
 
-/// Whether the comparison holds (RFC 9535, 2.3.5.2.2).
+/// Returns whether the operator holds between two values (RFC 9535, 2.3.5.2.2).
 #[inline(always)]
 pub fn compares<'a, 's, T: Queryable>(
     operator: Operator,
@@ -28,7 +28,7 @@ pub fn compares<'a, 's, T: Queryable>(
     }
 }
 
-/// Whether both are absent, or the same.
+/// Returns whether both are absent, or the same.
 fn are_equal<'a, 's, T: Queryable>(
     left: &FilterValueRef<'a, 's, T>,
     right: &FilterValueRef<'a, 's, T>,
@@ -51,7 +51,7 @@ fn are_equal<'a, 's, T: Queryable>(
     }
 }
 
-/// Whether the value is the same as one without parts. No matter which of them is on the left.
+/// Returns whether a value is the same as a scalar, whichever of them is on the left.
 #[inline(always)]
 fn is_scalar<T: Queryable>(value: WholeRef<'_, T>, scalar: Scalar<'_>) -> bool
     ensures left { result ≡ same (tree_of value.entry) (scalar_tree scalar.entry) }
@@ -65,7 +65,7 @@ fn is_scalar<T: Queryable>(value: WholeRef<'_, T>, scalar: Scalar<'_>) -> bool
     }
 }
 
-/// Whether two values without parts are the same.
+/// Returns whether two scalars are the same.
 #[inline(always)]
 fn scalars_are_same(left: Scalar<'_>, right: Scalar<'_>) -> bool
     ensures { result ≡ same (scalar_tree left.entry) (scalar_tree right.entry) }
@@ -79,7 +79,7 @@ fn scalars_are_same(left: Scalar<'_>, right: Scalar<'_>) -> bool
     }
 }
 
-/// Whether both are numbers or both are texts, and the left is less.
+/// Returns whether both are numbers or both are texts, and the left one is less.
 pub fn is_below<'a, 's, T: Queryable>(
     left: &FilterValueRef<'a, 's, T>,
     right: &FilterValueRef<'a, 's, T>,

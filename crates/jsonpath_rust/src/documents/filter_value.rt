@@ -1,4 +1,4 @@
-//! Values inside the evaluator: the sides of a comparison, and what functions take and return.
+//! Values in a filter: the sides of a comparison, and what functions take and return.
 ghost use Rattle.std.specs.Prelude.{◌++◌, ◌≡◌, IfErr, IfOk, length, OnOk, option_and_then, option_map, option_to_list, Some};
 ghost use Rattle.jsonpath_base.specs.Prelude.Documents.{as_int, as_text, count_value, is_true, length_of, literal_tree, literal_view};
 ghost use Rattle.jsonpath_rust.specs.Prelude.Documents.{arg_trees, Memory, filter_value_tree, own_tree, scalar_tree, filter_ref_tree, tree_of};
@@ -11,10 +11,10 @@ use jsonpath_base::text_length;
 use jsonpath_parser::model::Literal;
 use std::alloc::{AllocError, Global};
 
-/// Where counts stop: the greatest whole number of 64 bits.
+/// The greatest count, which is the greatest integer of 64 bits. Counts stop there.
 pub const GREATEST_COUNT: usize = 9223372036854775807;
 
-/// A value without parts.
+/// A value without children.
 #[derive(Clone, Copy)]
 pub enum Scalar<'s> {
     Null,
@@ -24,7 +24,7 @@ pub enum Scalar<'s> {
 }
 
 impl<'s> Scalar<'s> {
-    /// The text, where it is one.
+    /// Returns the text, if it is one.
     #[inline(always)]
     fn as_text(&self) -> Option<&str>
         ensures { option_map (λ s. s.now) result ≡ as_text (scalar_tree self.now) }
@@ -36,7 +36,7 @@ impl<'s> Scalar<'s> {
     }
 }
 
-/// A value or none: a side of a comparison, lent.
+/// A borrowed value in a filter, or none.
 pub enum FilterValueRef<'a, 's, T: Queryable> {
     Absent,
     /// A value in the document, or one that a custom function made.
@@ -52,16 +52,16 @@ impl<'a, 's, T: Queryable> Clone for FilterValueRef<'a, 's, T> {
 
 impl<'a, 's, T: Queryable> Copy for FilterValueRef<'a, 's, T> {}
 
-/// What a part of a filter gives.
+/// The value of an expression in a filter.
 #[derive(Drop)]
 pub enum FilterValue<'a, 's, T: Queryable> {
-    /// A value in the document or one without parts, or none.
+    /// A value in the document, a scalar, or none.
     Ref(FilterValueRef<'a, 's, T>),
     /// A value that a custom function made.
     Owned(Whole<T>),
 }
 
-/// The value of a literal.
+/// Returns the value of a literal.
 #[inline(always)]
 pub fn scalar_of(literal: &Literal) -> Scalar<'_>
     ensures { scalar_tree result ≡ literal_tree (literal_view literal.now) }
@@ -74,7 +74,7 @@ pub fn scalar_of(literal: &Literal) -> Scalar<'_>
     }
 }
 
-/// A count as a value.
+/// Returns a count as a value.
 #[inline(always)]
 pub fn count_scalar<'s>(count: usize) -> Scalar<'s>
     ensures { scalar_tree result ≡ count_value count }
@@ -83,7 +83,7 @@ pub fn count_scalar<'s>(count: usize) -> Scalar<'s>
 }
 
 impl<'a, 's, T: Queryable> FilterValueRef<'a, 's, T> {
-    /// A value, if there is one.
+    /// Returns a value, or absent for None.
     #[inline(always)]
     pub fn from_ref(value: Option<WholeRef<'a, T>>) -> Self
         ensures { filter_ref_tree result ≡ option_map tree_of value.entry }
@@ -94,7 +94,7 @@ impl<'a, 's, T: Queryable> FilterValueRef<'a, 's, T> {
         }
     }
 
-    /// The number, where it is one.
+    /// Returns the number, if it is one.
     #[inline(always)]
     pub fn as_number(&self) -> Option<i64>
         ensures { result ≡ option_and_then as_int (filter_ref_tree self.now) }
@@ -106,7 +106,7 @@ impl<'a, 's, T: Queryable> FilterValueRef<'a, 's, T> {
         }
     }
 
-    /// The text, where it is one.
+    /// Returns the text, if it is one.
     #[inline(always)]
     pub fn as_text(&self) -> Option<&str>
         ensures { option_map (λ s. s.now) result ≡ option_and_then as_text (filter_ref_tree self.now) }
@@ -118,7 +118,7 @@ impl<'a, 's, T: Queryable> FilterValueRef<'a, 's, T> {
         }
     }
 
-    /// Whether it is the truth true.
+    /// Returns whether it is `true`.
     #[inline(always)]
     pub fn is_true(&self) -> bool
         ensures { result ≡ is_true (filter_ref_tree self.now) }
@@ -130,7 +130,7 @@ impl<'a, 's, T: Queryable> FilterValueRef<'a, 's, T> {
         }
     }
 
-    /// The length of a text, a list or an object (RFC 9535, 2.4.4).
+    /// Returns the length of a text, a list or an object, and absent for any other value (RFC 9535, 2.4.4).
     pub fn length<'l>(&self, alloc: Global) -> WalkResult<FilterValueRef<'l, 's, T>>
         ensures value { IfOk result (λ s. filter_ref_tree s ≡ length_of (filter_ref_tree self.now)) }
         ensures memory { IfErr result (λ h. h ≡ Memory) }
@@ -144,7 +144,7 @@ impl<'a, 's, T: Queryable> FilterValueRef<'a, 's, T> {
         }
     }
 
-    /// Adds it to the arguments of a custom function, if it is not absent.
+    /// Adds it to the arguments of a custom function, unless it is absent.
     pub fn push_to(self, alloc: Global, args: &mut Args<'a, T>) -> WalkResult<()>
         ensures value { OnOk result (arg_trees args.new ≡ arg_trees args.old ++ option_to_list (filter_ref_tree self.entry)) }
         ensures memory { IfErr result (λ h. h ≡ Memory) }
@@ -165,7 +165,7 @@ impl<'a, 's, T: Queryable> FilterValueRef<'a, 's, T> {
 }
 
 impl<'a, 's, T: Queryable> FilterValue<'a, 's, T> {
-    /// A value in the document, if there is one.
+    /// Returns a value of the document, or absent for None.
     #[inline(always)]
     pub fn from_ref(value: Option<WholeRef<'a, T>>) -> Self
         ensures { filter_value_tree result ≡ option_map tree_of value.entry }
@@ -173,7 +173,7 @@ impl<'a, 's, T: Queryable> FilterValue<'a, 's, T> {
         FilterValue::Ref(FilterValueRef::from_ref(value))
     }
 
-    /// The same value: a copy, where a custom function made it.
+    /// Returns the same value. A value that a custom function made is copied.
     #[inline(always)]
     pub fn try_clone(&self, alloc: Global) -> WalkResult<Self>
         ensures value { IfOk result (λ o. filter_value_tree o ≡ filter_value_tree self.now) }
@@ -185,7 +185,7 @@ impl<'a, 's, T: Queryable> FilterValue<'a, 's, T> {
         }
     }
 
-    /// As a side of a comparison.
+    /// Returns it borrowed, as a side of a comparison.
     #[inline(always)]
     pub fn as_side(&self) -> FilterValueRef<'_, 's, T>
         ensures { filter_ref_tree result ≡ filter_value_tree self.now }
@@ -196,7 +196,7 @@ impl<'a, 's, T: Queryable> FilterValue<'a, 's, T> {
         }
     }
 
-    /// How many values it is: none where it is absent, and else one.
+    /// Returns the number of values: 0 if it is absent, else 1.
     pub fn count(&self) -> usize
         ensures { result ≡ length (option_to_list (filter_value_tree self.now)) }
     {
@@ -206,7 +206,7 @@ impl<'a, 's, T: Queryable> FilterValue<'a, 's, T> {
         }
     }
 
-    /// Whether it is the truth true.
+    /// Returns whether it is `true`.
     #[inline(always)]
     pub fn is_true(&self) -> bool
         ensures { result ≡ is_true (filter_value_tree self.now) }
@@ -214,7 +214,7 @@ impl<'a, 's, T: Queryable> FilterValue<'a, 's, T> {
         self.as_side().is_true()
     }
 
-    /// The length of a text, a list or an object (RFC 9535, 2.4.4).
+    /// Returns the length of a text, a list or an object, and absent for any other value (RFC 9535, 2.4.4).
     #[inline(always)]
     pub fn length(&self, alloc: Global) -> WalkResult<FilterValue<'a, 's, T>>
         ensures value { IfOk result (λ o. filter_value_tree o ≡ length_of (filter_value_tree self.now)) }
@@ -224,7 +224,7 @@ impl<'a, 's, T: Queryable> FilterValue<'a, 's, T> {
         Ok(FilterValue::Ref(length))
     }
 
-    /// Adds it to the arguments of a custom function, if it is not absent.
+    /// Adds it to the arguments of a custom function, unless it is absent.
     pub fn push_to(self, alloc: Global, args: &mut Args<'a, T>) -> WalkResult<()>
         ensures value { OnOk result (arg_trees args.new ≡ arg_trees args.old ++ option_to_list (filter_value_tree self.entry)) }
         ensures memory { IfErr result (λ h. h ≡ Memory) }
@@ -239,7 +239,7 @@ impl<'a, 's, T: Queryable> FilterValue<'a, 's, T> {
     }
 }
 
-/// A value without parts, as a value of the document's type.
+/// Returns a scalar as a value of the document's type.
 pub fn made<T: Queryable>(alloc: Global, scalar: Scalar<'_>) -> WalkResult<Whole<T>>
     ensures value { IfOk result (λ v. own_tree v ≡ scalar_tree scalar.entry) }
     ensures memory { IfErr result (λ h. h ≡ Memory) }
@@ -258,7 +258,7 @@ pub fn made<T: Queryable>(alloc: Global, scalar: Scalar<'_>) -> WalkResult<Whole
     }
 }
 
-/// The length of a value, where it has one (RFC 9535, 2.4.4).
+/// Returns the length of a value, if it has one (RFC 9535, 2.4.4).
 pub fn length_of<T: Queryable>(alloc: Global, value: WholeRef<'_, T>) -> WalkResult<Option<usize>>
     ensures value { IfOk result (λ o. option_map count_value o ≡ length_of (Some (tree_of value.entry))) }
     ensures memory { IfErr result (λ h. h ≡ Memory) }
@@ -272,7 +272,7 @@ pub fn length_of<T: Queryable>(alloc: Global, value: WholeRef<'_, T>) -> WalkRes
     Ok(value.member_count(alloc)?)
 }
 
-/// A count, if there is one.
+/// Returns a count as a value, or absent for None.
 fn counted<'a, 's, T: Queryable>(count: Option<usize>) -> FilterValueRef<'a, 's, T>
     ensures { filter_ref_tree result ≡ option_map count_value count }
 {

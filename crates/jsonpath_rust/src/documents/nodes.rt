@@ -1,4 +1,4 @@
-//! Whole values and nodes of them: lists, and the only one. What they hold goes out as it is, with no copy.
+//! Lists of whole values and of their nodes, and the only value of a query. They are passed to callers without a copy.
 ghost use Rattle.std.proofs.Props.{props};
 ghost use Rattle.std.specs.Prelude.{◌≡◌, ◌++◌, [], ◌∷◌, map, All, IsTrue, OnOk, string_bytes};
 ghost use Rattle.jsonpath_base.specs.documents.Answer.{shown};
@@ -9,7 +9,7 @@ use crate::documents::whole::WholeRef;
 use crate::documents::{QueryPath, QueryRef};
 use std::alloc::{AllocError, Global};
 
-/// What a walk found where the only node is wanted: none, one with this value, or several.
+/// What a walk found where one node is demanded: none, one with this value, or several.
 #[derive(Clone, Copy)]
 pub enum WholeSingle<'a, T: Queryable> {
     Nothing,
@@ -31,7 +31,7 @@ pub struct WholeMembers<'l, 'a, T: Queryable> {
     ghost whole: { All (λ m. IsTrue (T.is_whole m.1.now)) list.now } by { Prim.hlevel props },
 }
 
-/// Nodes of whole values.
+/// Nodes whose values are whole.
 #[derive(Drop)]
 pub struct WholeNodes<'a, T: Queryable> {
     pub list: Vec<QueryRef<'a, T>>,
@@ -39,7 +39,7 @@ pub struct WholeNodes<'a, T: Queryable> {
 }
 
 impl<'a, T: Queryable> WholeNodes<'a, T> {
-    /// None.
+    /// Returns an empty list.
     #[inline(always)]
     pub fn new(alloc: Global) -> Self
         ensures { result.list.items ≡ [] }
@@ -63,7 +63,7 @@ impl<'a, T: Queryable> WholeNodes<'a, T> {
     }
 }
 
-/// Whole values.
+/// A list of whole values.
 #[derive(Drop)]
 pub struct WholeValues<'a, T: Queryable> {
     pub list: Vec<&'a T>,
@@ -71,7 +71,7 @@ pub struct WholeValues<'a, T: Queryable> {
 }
 
 impl<'a, T: Queryable> WholeValues<'a, T> {
-    /// None.
+    /// Returns an empty list.
     #[inline(always)]
     pub fn new(alloc: Global) -> Self
         ensures { result.list.items ≡ [] }
@@ -81,7 +81,7 @@ impl<'a, T: Queryable> WholeValues<'a, T> {
         }
     }
 
-    /// Adds this one.
+    /// Adds a value.
     #[inline(always)]
     pub fn push(&mut self, value: WholeRef<'a, T>) -> Result<(), AllocError>
         ensures { OnOk result (map (λ v. T.tree v.now) self.new.list.items

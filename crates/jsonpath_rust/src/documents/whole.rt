@@ -1,4 +1,4 @@
-//! Values that are whole. A type says so, so that no function that is given one asks for it.
+//! Values that are whole. Their type says so, so no function that takes one has to require it.
 ghost use Rattle.std.specs.Prelude.{◌≡◌, IsTrue};
 
 use crate::documents::queryable::Queryable;
@@ -7,14 +7,14 @@ use std::ops::Deref;
 
 mod reading;
 
-/// A value that is whole.
+/// An owned value that is whole.
 #[derive(Debug, Drop)]
 pub struct Whole<T: Queryable> {
     pub(crate) value: T,
     ghost whole: { IsTrue (T.is_whole value) },
 }
 
-/// A value that is whole, borrowed: as large as the reference that it is.
+/// A borrowed value that is whole. It is as large as a reference.
 #[derive(Debug)]
 pub struct WholeRef<'a, T: Queryable> {
     pub(crate) value: &'a T,
@@ -29,7 +29,7 @@ impl<'a, T: Queryable> Clone for WholeRef<'a, T> {
 
 impl<'a, T: Queryable> Copy for WholeRef<'a, T> {}
 
-/// Its calls are those of the value, which is whole.
+/// Calls the methods of the value, which is whole.
 impl<T: Queryable> Deref for Whole<T> {
     type Target = T;
 
@@ -40,8 +40,8 @@ impl<T: Queryable> Deref for Whole<T> {
     }
 }
 
-/// What a call borrows from the value lives no longer than this; of what [`WholeRef::get`] returns it lives as long as
-/// the value.
+/// Calls the methods of the value. What a call borrows lives no longer than this wrapper; what [`WholeRef::get`]
+/// returns lives as long as the value.
 impl<'a, T: Queryable> Deref for WholeRef<'a, T> {
     type Target = T;
 

@@ -1,4 +1,4 @@
-//! Deletion of what a query selects.
+//! Deletes what a query selects.
 ghost use Rattle.std.specs.Prelude.{◌≡◌, Bool, false, IfOk, IsTrue, OnErr, true};
 ghost use Rattle.jsonpath_base.specs.Prelude.Documents.{document_of, IsErrAnd, value_document, value_is_whole, value_tree};
 ghost use Rattle.jsonpath_rust.specs.Prelude.Selection.{runner_view};
@@ -17,11 +17,11 @@ use std::alloc::Global;
 
 /// A document from which the locations that a query selects can be removed.
 pub trait Deletable: Queryable {
-    /// Whether `delete_by_path` removes anything. Where it does not, it refuses.
+    /// Whether `delete_by_path` removes anything. If not, it returns an error.
     ghost deletes: { Bool } = { false };
 
-    /// Removes all locations that a query text selects, and returns how many distinct ones there were; by default it
-    /// refuses by `InvalidJsonPath`. After any refusal the value has the tree it had.
+    /// Removes all locations that a query text selects, and returns the number of distinct ones. By default it fails
+    /// with `InvalidJsonPath`. After any error the value has the tree it had.
     fn delete_by_path(&mut self, alloc: Global, _path: &str) -> Queried<usize>
         requires { IsTrue (Self.is_whole self.old) }
         ensures unchanged_on_error { OnErr result (Self.tree self.new ≡ Self.tree self.old) }
@@ -36,7 +36,7 @@ pub trait Deletable: Queryable {
 impl Deletable for Value {
     ghost deletes = { true };
 
-    /// Removes all locations that a query text selects, as [`delete_within`], which this is at a depth of 128.
+    /// Removes all locations that a query text selects, as [`delete_within`] with a depth of 128.
     fn delete_by_path(&mut self, alloc: Global, path: &str) -> Queried<usize>
         requires { IsTrue (value_is_whole self.old) }
         ensures deleted { ByText MAX_NESTING_DEPTH path.now (value_document self.old) (Deletion (value_tree self.new))
@@ -49,16 +49,16 @@ impl Deletable for Value {
 }
 
 /// Removes all locations that a query text selects in a document, at once and each by its original place, and returns
-/// how many distinct ones there are, those inside other ones counted too. Where the root is selected, null is left.
+/// the number of distinct ones. Those inside other ones count too. If the root is selected, null is left.
 ///
-/// All nodes are found, and all memory is taken, before anything is removed: a step that many locations begin with is
-/// held once. Time as [`js_path_within`], and n log n in the steps of the locations, of which the first that a location
-/// has from the one before count without their names; in a list that loses elements, each element behind the first of
-/// them is moved once.
+/// All nodes are found, and all memory is taken, before anything is removed. A step with which many locations begin is
+/// stored once. It takes the time of [`js_path_within`], and n log n in the steps of the locations; the first steps
+/// that a location shares with the one before it count without their names. In a list that loses elements, each element
+/// after the first of them is moved once.
 ///
 /// # Errors
 ///
-/// As those of [`js_path_within`]; after any of them the document is as it was.
+/// Those of [`js_path_within`]. After any of them the document is as it was.
 ///
 /// [`js_path_within`]: crate::query::js_path_within
 pub fn delete_within(alloc: Global, value: &mut Value, path: &str, depth: usize) -> Queried<usize>
@@ -73,7 +73,7 @@ pub fn delete_within(alloc: Global, value: &mut Value, path: &str, depth: usize)
 }
 
 impl<'p, L: Limit> Runner<'p, L> {
-    /// Removes all locations that the query selects in a document, and returns how many distinct ones there are.
+    /// Removes all locations that the query selects in a document, and returns the number of distinct ones.
     pub(crate) fn delete(&mut self, alloc: Global, value: &mut Value) -> Result<usize, L::Error>
         requires { IsTrue (value_is_whole value.old) }
         ensures deleted { Runs L.stops (runner_view self.old) (runner_view self.new) (value_document value.old)

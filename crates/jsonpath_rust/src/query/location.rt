@@ -1,4 +1,4 @@
-//! Locations, and the queries that are theirs: each segment is one name, or one index from 0 on (RFC 9535, 2.7).
+//! Locations, and their queries: each segment is one name, or one index from 0 on (RFC 9535, 2.7).
 ghost use Rattle.std.specs.Prelude.{◌≡◌, IfErr, IfOk, MatchResult, option_map, Some};
 ghost use Rattle.jsonpath_base.specs.Prelude.Documents.{Derives, HasIndexesInRange, IsLocationByPath, IsLocationOf, IsNormal, IsRefusal, Location, location_view, OutOfMemory, Query, query_view};
 
@@ -8,10 +8,10 @@ use jsonpath_parser::model::JpQuery;
 use jsonpath_parser::{MAX_NESTING_DEPTH, drop_query, parse_json_path};
 use std::alloc::Global;
 
-/// The location that a query means in every document, or None: each of its segments is one name, or one index from 0
-/// on. It refuses by `OutOfMemory` alone.
+/// Returns the location that a query means in every document, or None: each of its segments is one name, or one index
+/// from 0 on. It fails with `OutOfMemory` only.
 ///
-/// The time is linear in the query.
+/// It takes time linear in the query.
 pub fn location_of(alloc: Global, query: &JpQuery) -> Queried<Option<Vec<Step>>>
     ensures location { IfOk result (λ o. IsLocationOf (query_view query.now) (option_map (λ v. location_view v.items) o)) }
     ensures memory { IfErr result (λ e. e ≡ OutOfMemory) }
@@ -24,8 +24,9 @@ pub fn location_of(alloc: Global, query: &JpQuery) -> Queried<Option<Vec<Step>>>
     }
 }
 
-/// The location that a query text means in every document, as [`location_of`]; of a Normalized Path with indexes below
-/// 2^53 it is the path's own. It asks no document, so it leads from the paths that queries return to their steps.
+/// Returns the location that a query text means in every document, as [`location_of`]. For a Normalized Path with
+/// indexes below 2^53 it is the location of the path. It needs no document, so it turns the paths that queries return
+/// into steps.
 ///
 /// # Errors
 ///
@@ -38,7 +39,7 @@ pub fn location_by_path(alloc: Global, path: &str) -> Queried<Option<Vec<Step>>>
         (λ o. IsLocationOf q (option_map (λ v. location_view v.items) o))
         (λ e. e ≡ OutOfMemory) }
 
-    // A Normalized Path is refused by `OutOfMemory` alone.
+    // For a Normalized Path it fails with `OutOfMemory` only.
     ensures normal { (l : Location) → IsNormal l path.now → HasIndexesInRange l → MatchResult result
         (λ o. option_map (λ v. location_view v.items) o ≡ Some l)
         (λ e. e ≡ OutOfMemory) }

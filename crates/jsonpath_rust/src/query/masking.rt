@@ -1,4 +1,4 @@
-//! Masking: a value in the place of all that a query selects.
+//! Masks what a query selects: replaces it by one value.
 ghost use Rattle.std.specs.Prelude.{◌≡◌, IsTrue, OnErr};
 ghost use Rattle.jsonpath_base.specs.Prelude.Documents.{value_document, value_is_whole, value_tree};
 ghost use Rattle.jsonpath_rust.specs.Prelude.Selection.{runner_view};
@@ -12,16 +12,16 @@ use jsonpath_parser::MAX_NESTING_DEPTH;
 use serde_json::Value;
 use std::alloc::Global;
 
-/// Puts a copy of `new` at all locations that a query text selects in a document, at once, and returns how many
-/// distinct ones there are. Of locations that lie inside one another the outermost is replaced; the others are counted
-/// too.
+/// Puts a copy of `new` at all locations that a query text selects in a document, at once, and returns the number of
+/// distinct ones. Of locations that are inside one another the outermost is replaced; the others count too.
 ///
-/// All nodes are found, and all memory is taken, before anything is replaced. Time as [`js_path_within`], n log n in
-/// the steps of the locations as [`delete_within`], and the size of `new` for each location that lies inside no other.
+/// All nodes are found, and all memory is taken, before anything is replaced. It takes the time of [`js_path_within`],
+/// n log n in the steps of the locations as [`delete_within`], and the size of `new` for each location that is inside
+/// no other.
 ///
 /// # Errors
 ///
-/// As those of [`js_path_within`]; after any of them the document is as it was.
+/// Those of [`js_path_within`]. After any of them the document is as it was.
 ///
 /// [`js_path_within`]: crate::query::js_path_within
 /// [`delete_within`]: crate::query::delete_within
@@ -43,7 +43,7 @@ pub fn replace_within(
     query.runner(alloc).replace(alloc, value, new)
 }
 
-/// The same as [`replace_within`], at a depth of 128.
+/// Replaces as [`replace_within`], with a depth of 128.
 pub fn replace_all_by_path(
     alloc: Global,
     value: &mut Value,
@@ -62,8 +62,8 @@ pub fn replace_all_by_path(
 }
 
 impl<'p, L: Limit> Runner<'p, L> {
-    /// Puts a copy of `new` at all locations that the query selects in a document, and returns how many distinct ones
-    /// there are.
+    /// Puts a copy of `new` at all locations that the query selects in a document, and returns the number of distinct
+    /// ones.
     pub(crate) fn replace(
         &mut self,
         alloc: Global,

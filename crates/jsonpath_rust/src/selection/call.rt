@@ -1,4 +1,6 @@
-//! Functions and their arguments (RFC 9535, 2.4).
+//! Function calls and the values of expressions (RFC 9535, 2.4).
+//!
+//! This file evaluates calls, their arguments, and the expressions of a plan. It also says what is spent for them.
 ghost use Rattle.jsonpath_base.specs.Prelude.Documents.{IsPattern, all_trees, answer, argued, argument_patterns, arguments_patterns, as_trees, as_value, call_patterns, is_entire, is_matched, of_nodes, segments_patterns, truth};
 ghost use Rattle.jsonpath_rust.specs.Prelude.Documents.{Memory, arg_trees, filter_value_tree};
 ghost use Rattle.jsonpath_rust.specs.Prelude.Selection.{EndsProperly, IsOne, IsPositionedAt, IsWalkError, Limited, ResultView, Single, Values, arguments_meant, at_current, call_view, constants_of, demanded_value, document, expr_view, result_for, result_view, segments_meant, selected_from, slot_at, slots_of, trees_in};
@@ -21,7 +23,7 @@ use jsonpath_base::MatchKind;
 use jsonpath_base::engine::{Origin, PatternCache, PatternKey};
 use std::alloc::Global;
 
-/// What `match` or `search` takes.
+/// The two arguments of `match` or `search`.
 #[derive(Clone, Copy)]
 struct PatternOperands<'s> {
     text: &'s Expr,
@@ -29,7 +31,7 @@ struct PatternOperands<'s> {
 }
 
 impl<'a: 's, 's, T: Queryable> WalkContext<'a, 's, T> {
-    /// What a call returns at a value, to which the way leads.
+    /// Returns what a call returns at the current node.
     #[cycle(walk)]
     #[tactic(auto, using(crate::proofs::laws::selection::PlanEquations::plan_equations))]
     pub fn answer(
@@ -84,8 +86,8 @@ impl<'a: 's, 's, T: Queryable> WalkContext<'a, 's, T> {
         }
     }
 
-    /// What `match` or `search` returns of a text and a pattern: `match` asks of the entire text, `search` of its
-    /// substrings (RFC 9535, 2.4.6 and 2.4.7).
+    /// Returns whether the text matches the pattern: all of it for `match`, a substring of it for `search` (RFC 9535,
+    /// 2.4.6 and 2.4.7).
     #[cycle(walk)]
     fn match_or_search(
         &self,
@@ -116,7 +118,7 @@ impl<'a: 's, 's, T: Queryable> WalkContext<'a, 's, T> {
         Ok(FilterValue::Ref(FilterValueRef::Plain(Scalar::Truth(found))))
     }
 
-    /// What a custom function returns.
+    /// Returns what a custom function returns.
     #[cycle(walk)]
     fn custom(
         &self,
@@ -136,7 +138,7 @@ impl<'a: 's, 's, T: Queryable> WalkContext<'a, 's, T> {
         for arg in args {
             self.push(arg, at, state, &mut values)?;
         }
-        let most = state.budget.left().saturating_add(1);
+        let most = state.budget.remaining().saturating_add(1);
         let cost = self.limit.custom_cost(self.alloc, &values, most)?;
         state.budget.spend(self.limit, cost)?;
         let value = T::extension_custom(self.alloc, name, &values.list)?;
@@ -144,7 +146,7 @@ impl<'a: 's, 's, T: Queryable> WalkContext<'a, 's, T> {
     }
 }
 
-/// The number of the pattern that this argument is, where it has one; else it counts as one of the document.
+/// Returns where a pattern is from: the query, if the argument has a number, else the document.
 #[inline(always)]
 fn origin_of(arg: &Expr) -> Origin {
     match arg {
@@ -153,8 +155,8 @@ fn origin_of(arg: &Expr) -> Origin {
     }
 }
 
-/// What `match` or `search` returns for a value and a pattern. It refuses where the pattern is too large, and where
-/// memory ran out.
+/// Returns whether a text matches a pattern; false unless both are texts. It fails where the pattern is too large, and
+/// where memory runs out.
 fn is_matched<T: Queryable>(
     alloc: Global,
     finders: &mut PatternCache<'_, '_>,
@@ -174,7 +176,7 @@ fn is_matched<T: Queryable>(
 }
 
 impl<'a: 's, 's, T: Queryable> WalkContext<'a, 's, T> {
-    /// Adds a value, if it is not absent, for a unit.
+    /// Adds a value, unless it is absent. It costs one unit.
     pub fn push_value(
         &self,
         value: FilterValue<'a, 's, T>,
@@ -183,14 +185,14 @@ impl<'a: 's, 's, T: Queryable> WalkContext<'a, 's, T> {
     ) -> WalkResult<()>
         ensures value { OnOk result (arg_trees args.new ≡ arg_trees args.old ++ option_to_list (filter_value_tree value.entry)) }
         ensures paid { OnOk result (self.now.limit ≡ Limited →
-            budget.new.left + length (option_to_list (filter_value_tree value.entry)) ≡ budget.old.left) }
+            budget.new.remaining + length (option_to_list (filter_value_tree value.entry)) ≡ budget.old.remaining) }
         ensures halts { IfErr result (IsWalkError self.now.limit [] (document self.now)) }
     {
         budget.spend(self.limit, value.count())?;
         value.push_to(self.alloc, args)
     }
 
-    /// Adds the values that are given, for a unit each.
+    /// Adds the values of a result. Each costs one unit.
     pub fn push_given(
         &self,
         given: &CachedResult<'a, 's, T>,
@@ -199,14 +201,15 @@ impl<'a: 's, 's, T: Queryable> WalkContext<'a, 's, T> {
     ) -> WalkResult<()>
         ensures value { OnOk result (arg_trees args.new ≡ arg_trees args.old ++ trees_in (result_view given.now)) }
         ensures paid { OnOk result (self.now.limit ≡ Limited →
-            budget.new.left + length (trees_in (result_view given.now)) ≡ budget.old.left) }
+            budget.new.remaining + length (trees_in (result_view given.now)) ≡ budget.old.remaining) }
         ensures halts { IfErr result (IsWalkError self.now.limit [] (document self.now)) }
     {
         budget.spend(self.limit, given.count())?;
         given.push_to(self.alloc, args)
     }
 
-    /// Adds what the constant of this number gave, if it is worked out, for a unit each, and for what a copy costs.
+    /// Adds the cached result of the constant of this number, if there is one. It costs a unit for each value, and what
+    /// a copy costs.
     pub fn push_cached(
         &self,
         number: usize,
@@ -227,12 +230,12 @@ impl<'a: 's, 's, T: Queryable> WalkContext<'a, 's, T> {
         }
     }
 
-    /// Pays for a copy of what is kept, where that is a value that a custom function made.
+    /// Pays for a copy of a cached result, if that is a value that a custom function made.
     pub fn pay_copy(&self, given: &CachedResult<'a, 's, T>, budget: &mut Budget) -> WalkResult<()>
         ensures halts { IfErr result (IsWalkError self.now.limit [] (document self.now)) }
     {
         if let CachedResult::Value(FilterValue::Owned(made)) = given {
-            let most = budget.left().saturating_add(1);
+            let most = budget.remaining().saturating_add(1);
             let cost = self.limit.copy_cost(self.alloc, made.as_ref(), most)?;
             budget.spend(self.limit, cost)?;
         }
@@ -241,7 +244,8 @@ impl<'a: 's, 's, T: Queryable> WalkContext<'a, 's, T> {
 }
 
 impl<'a: 's, 's, T: Queryable> WalkContext<'a, 's, T> {
-    /// What is wanted of a part at a value, to which the way leads; the value of what is no query.
+    /// Returns what is demanded of an expression at the current node. For an expression that is not a query that is its
+    /// value.
     #[cycle(walk)]
     #[tactic(auto, using(crate::proofs::laws::selection::PlanEquations::plan_equations))]
     #[inline(never)]
@@ -291,7 +295,7 @@ impl<'a: 's, 's, T: Queryable> WalkContext<'a, 's, T> {
         }
     }
 
-    /// The value of a part: what is looked up, at once.
+    /// Returns the value of an argument; a look-up is done here, without another call.
     #[cycle(walk)]
     #[inline(always)]
     pub fn operand(
@@ -312,8 +316,9 @@ impl<'a: 's, 's, T: Queryable> WalkContext<'a, 's, T> {
         self.value(part, Demand::Single, at, state)
     }
 
-    /// Adds a part to the arguments of a custom function: each value of a node of a query is one, as in the Rust crate;
-    /// else the value is one, if it is not absent. A unit is spent for each.
+    /// Adds the values of an expression to the arguments of a custom function. A query adds the value of each of its
+    /// nodes, as in the Rust crate. Any other expression adds its value, unless that is absent. Each value costs one
+    /// unit.
     #[cycle(walk)]
     #[tactic(auto, using(crate::proofs::laws::selection::PlanEquations::plan_equations))]
     pub fn push(
@@ -351,7 +356,7 @@ impl<'a: 's, 's, T: Queryable> WalkContext<'a, 's, T> {
         }
     }
 
-    /// The same of a part that has one value at most.
+    /// Adds the value of an expression that has at most one.
     #[cycle(walk)]
     fn push_one(
         &self,
@@ -371,7 +376,7 @@ impl<'a: 's, 's, T: Queryable> WalkContext<'a, 's, T> {
         self.push_value(value, &mut state.budget, args)
     }
 
-    /// What is wanted of the nodes of these segments, from a value on.
+    /// Returns what is demanded of the nodes that these segments select from a value.
     #[cycle(walk)]
     pub fn gather(
         &self,

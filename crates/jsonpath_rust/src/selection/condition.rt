@@ -1,4 +1,5 @@
-//! Conditions on a document itself.
+//! Conditions on a document itself: the text and the tree of one, its evaluation at the root, and the conditions that
+//! are free under a limit of work (a test of one singular query).
 ghost use Rattle.jsonpath_base.specs.Prelude.Documents.{Derives, IsCharBoundary, IsRefusal, IsStop, OutOfMemory, atom_view, filter_view, holds, no_filters, or, query_shown, query_view, root_node, segment_view, segments_of, segments_patterns, test_view};
 ghost use Rattle.jsonpath_parser.specs.tree.Syntax as syntax;
 ghost use Rattle.jsonpath_parser.specs.tree.Typing as typing;
@@ -23,20 +24,20 @@ use std::alloc::Global;
 use std::fmt;
 use std::fmt::{Debug, Formatter, Write};
 
-/// What stands before a filter in a query.
+/// The text before the filter in the query of a condition.
 const OPENING: &str = "$[?";
 
-/// A logical expression (RFC 9535, 2.3.5) that is asked of a document itself: `@` and `$` both are its root. A query
-/// cannot say that, for `$[?!$.error]` tests the children of the root, and selects nothing in `{}`.
+/// A logical expression (RFC 9535, 2.3.5) that is evaluated at the root of a document: `@` and `$` both are the root. A
+/// query cannot express that, because `$[?!$.error]` tests the children of the root, and selects nothing in `{}`.
 ///
-/// What its patterns are built of stays from one document to the next, as in [`Prepared`].
+/// Its patterns stay built from one document to the next, as in [`Prepared`].
 #[derive(Drop)]
 pub struct Condition {
     prepared: Prepared,
 }
 
 impl Condition {
-    /// The condition that is this expression, such as a tree of `jsonpath_build`. It refuses by `OutOfMemory` alone.
+    /// Returns the condition of an expression, such as a tree of `jsonpath_build`. It fails with `OutOfMemory` only.
     /// The cost is linear in the expression.
     pub fn new(alloc: Global, filter: Filter) -> Queried<Self>
         ensures filter { IfOk result (λ c. condition_view c ≡ filter_view filter) }
@@ -48,18 +49,18 @@ impl Condition {
         Ok(Condition { prepared })
     }
 
-    /// The condition of a text, which is what may stand between `$[?` and `]` in a query, such as
+    /// Reads the text of a condition: what may be between `$[?` and `]` in a query, such as
     /// `@.type=='order'&&!@.error`.
     ///
     /// # Errors
     ///
-    /// Those of `parse_json_path_within` of the query `$[?..]` around the text, whose `[` counts as one bracket; the
-    /// place of `PestError` is one in the text. A text whose query is not this one filter, such as `@.a][?@.b`, is
-    /// refused by `PestError`, at the text's end.
+    /// Those of `parse_json_path_within` for the query `$[?..]` around the text, whose `[` counts as one bracket. The
+    /// place in a `PestError` is a place in the text. A text whose query is not this one filter, such as `@.a][?@.b`,
+    /// is refused by `PestError`, at the text's end.
     pub fn read(alloc: Global, text: &str, depth: usize) -> Queried<Self>
         ensures read { IfOk result (λ c. Derives depth (in_filter text.now) (filter_query (condition_view c))) }
 
-        // Whatever expression the text is, it is the one asked, unless memory ran out.
+        // Every expression that the text derives is the condition, unless memory ran out.
         ensures complete { (f : syntax.Filter) → Derives depth (in_filter text.now) (filter_query f) →
             MatchResult result (λ c. condition_view c ≡ f) (λ e. e ≡ OutOfMemory) }
         ensures refused { IfErr result (IsConditionRefusal depth text.now) }
@@ -77,7 +78,7 @@ impl Condition {
         Ok(Condition { prepared })
     }
 
-    /// Whether the condition holds of a document.
+    /// Returns whether the condition holds for a document.
     ///
     /// # Errors
     ///
@@ -91,8 +92,8 @@ impl Condition {
         self.runner(alloc).holds(alloc, value)
     }
 
-    /// What asks the condition of one document after another, and keeps what searches for its patterns. Nothing is
-    /// allocated yet.
+    /// Returns a runner, which evaluates the condition on one document after another and caches the matchers of its
+    /// patterns. It allocates nothing.
     pub fn runner(&self, alloc: Global) -> ConditionRunner<'_>
         ensures { condition_runner_view result ≡ condition_view self.now }
     {
@@ -102,7 +103,7 @@ impl Condition {
     }
 }
 
-/// `Condition` and its query between parentheses, as that is shown.
+/// Shows `Condition` with its query in parentheses.
 impl Debug for Condition {
     ghost debug_output = { λ c. Some (codes "Condition(" ++ query_shown (prepared_view c.prepared) ++ codes ")") };
 
@@ -111,7 +112,7 @@ impl Debug for Condition {
     }
 }
 
-/// What asks a [`Condition`] of one document after another, under a limit of work or none.
+/// Evaluates a [`Condition`] on one document after another, with or without a limit of work.
 ///
 /// For untrusted conditions the work of each call can be limited, by [`ConditionRunner::limited`].
 #[derive(Drop)]
@@ -120,8 +121,8 @@ pub struct ConditionRunner<'c, L: Limit = Unlimited> {
 }
 
 impl<'c, L: Limit> ConditionRunner<'c, L> {
-    /// The runner, with a limit: each of its calls may take so many units of work. What these are spent for stands at
-    /// [`Units`].
+    /// Returns the runner with a limit: each of its calls may take `units` units of work. [`Units`] says what they are
+    /// spent for.
     pub fn limited(self, units: usize) -> ConditionRunner<'c, Units>
         ensures { condition_runner_view result ≡ condition_runner_view self.entry }
     {
@@ -130,7 +131,7 @@ impl<'c, L: Limit> ConditionRunner<'c, L> {
         }
     }
 
-    /// Whether the condition holds of a document, as [`Condition::holds`].
+    /// Returns whether the condition holds for a document, as [`Condition::holds`].
     pub fn holds<T: Queryable>(
         &mut self,
         alloc: Global,
@@ -146,7 +147,7 @@ impl<'c, L: Limit> ConditionRunner<'c, L> {
     }
 }
 
-/// `ConditionRunner` and its query between parentheses, as that is shown.
+/// Shows `ConditionRunner` with its query in parentheses.
 impl<'c, L: Limit> Debug for ConditionRunner<'c, L> {
     ghost debug_output = { λ r. Some (codes "ConditionRunner(" ++ query_shown (runner_view r.runner) ++ codes ")") };
 
@@ -155,7 +156,7 @@ impl<'c, L: Limit> Debug for ConditionRunner<'c, L> {
     }
 }
 
-/// The text of the query `$[?..]` around a text.
+/// Returns the text of the query `$[?..]` around a text.
 fn query_text(alloc: Global, text: &str) -> Parsed<String>
     ensures text { IfOk result (λ s. string_bytes s ≡ in_filter text.now) }
     ensures memory { IfErr result (λ e. e ≡ OutOfMemory) }
@@ -166,14 +167,14 @@ fn query_text(alloc: Global, text: &str) -> Parsed<String>
     Ok(whole)
 }
 
-/// Whether a query is `$[?..]`.
+/// Returns whether a query is `$[?..]`.
 fn is_one_filter(query: &JpQuery) -> bool
     ensures { result ≡ is_some (filter_of (query_view query.now)) }
 {
     only_filter(query).is_some()
 }
 
-/// The filter of a query `$[?..]`.
+/// Returns the filter of a query `$[?..]`.
 fn only_filter(query: &JpQuery) -> Option<&Filter>
     ensures { option_map (λ f. filter_view f.now) result ≡ filter_of (query_view query.now) }
 {
@@ -189,7 +190,7 @@ fn only_filter(query: &JpQuery) -> Option<&Filter>
     }
 }
 
-/// The filter of a segment `[?..]`.
+/// Returns the filter of a segment `[?..]`.
 fn segment_filter(segment: &Segment) -> Option<&Filter>
     ensures { option_map (λ f. filter_view f.now) result ≡ segment_filter (segment_view segment.now) }
 {
@@ -206,7 +207,7 @@ fn segment_filter(segment: &Segment) -> Option<&Filter>
     }
 }
 
-/// The refusal of a text, from that of the query text around it.
+/// Returns the error for a text, from the error for the query text around it.
 fn refusal(text: &str, error: JsonPathError) -> JsonPathError
     ensures refused { (limit : ℕ) → IsRefusal limit (in_filter text.now) error → IsConditionRefusal limit text.now result }
     ensures memory { error ≡ OutOfMemory → result ≡ OutOfMemory }
@@ -217,14 +218,15 @@ fn refusal(text: &str, error: JsonPathError) -> JsonPathError
     }
 }
 
-/// The place in a text that a place in the query text around it is.
+/// Returns the place in a text, from a place in the query text around it.
 fn place_in(text: &str, place: usize) -> usize
     ensures { IsCharBoundary text.now result }
 {
     text.floor_char_boundary(place.saturating_sub(OPENING.len()))
 }
 
-/// Whether the filter holds. The second result asks the patterns of the plan, and can do so for the next document.
+/// Evaluates a plan that is one filter, at the root. Returns whether the filter holds, and the matchers of the query's
+/// patterns, for the next document.
 pub fn evaluate<'a, 'p, T: Queryable>(
     alloc: Global,
     request: Request<'_, 'p>,
@@ -263,7 +265,7 @@ pub fn evaluate<'a, 'p, T: Queryable>(
     }
 }
 
-/// Whether a query is one filter, and that a test of a singular query.
+/// Returns whether a query is one filter that is a test of a singular query.
 pub fn is_one_singular_test(query: &JpQuery) -> bool
     ensures { result ≡ tests_singular (expression_of (query_view query.now)) }
 {
@@ -273,7 +275,7 @@ pub fn is_one_singular_test(query: &JpQuery) -> bool
     }
 }
 
-/// Whether an expression is such a test, `!` in front or none.
+/// Returns whether an expression is a test of a singular query, with or without `!`.
 fn is_singular_filter(filter: &Filter) -> bool
     ensures { result ≡ tests_singular (filter_view filter.now) }
 {
@@ -294,7 +296,7 @@ fn is_singular_atom(atom: &FilterAtom) -> bool
     }
 }
 
-/// Whether a test is a singular query.
+/// Returns whether a test is a singular query.
 fn is_singular_test(test: &Test) -> bool
     ensures { result ≡ typing.is_singular_test (test_view test.now) }
 {

@@ -1,4 +1,7 @@
-//! What one call of the evaluator keeps: what was worked out once, by the number of its constant.
+//! The constants of a query: the parts of its filters that are evaluated once in a call.
+//!
+//! This file holds the cache of their results, their evaluation when they are first needed, and the evaluation of
+//! queries from the root before the walk, which deep documents need.
 ghost use Rattle.jsonpath_base.specs.Prelude.Documents.{Document, absolute, argument_patterns, is_true, no_segments, test_argument};
 ghost use Rattle.jsonpath_rust.specs.Prelude.Documents.{Memory, arg_trees, filter_value_tree};
 ghost use Rattle.jsonpath_rust.specs.Prelude.Selection.{AreEmpty, Constants, EndsProperly, IsCacheCorrect, IsCacheOf, IsGiven, IsPositionedAt, IsWalkError, WorkLimit, argument_at, constant_view, constants_of, document, fits, given_value, part_at, part_patterns, result_of, result_view, slot_at, slots_of, trees_in};
@@ -19,26 +22,26 @@ use jsonpath_base::engine::CurrentPath;
 use std::alloc::{AllocError, Global};
 use std::mem;
 
-/// What is kept for one call.
+/// The results of the constants, during one call.
 #[derive(Drop)]
 pub struct Cache<'a, 's, T: Queryable> {
-    /// What each constant gave, once it is worked out.
+    /// The result of each constant that has been evaluated, by its number.
     pub slots: Vec<Option<CachedResult<'a, 's, T>>>,
 }
 
-/// What a constant gave, or what was wanted of nodes.
+/// The result of a constant, or what was demanded of the nodes of a query.
 #[derive(Drop)]
 pub enum CachedResult<'a, 's, T: Queryable> {
-    /// A value, if there is one.
+    /// One value, or none.
     Value(FilterValue<'a, 's, T>),
-    /// All values of nodes.
+    /// The values of all nodes.
     Values(WholeValues<'a, T>),
-    /// Nothing, for a pattern in it is too large.
+    /// No result, because a pattern is too large.
     Refused,
 }
 
 impl<'a, 's, T: Queryable> CachedResult<'a, 's, T> {
-    /// The value that was given; absent where it was none.
+    /// Returns the value of the result; absent where it has none.
     #[inline(always)]
     pub fn into_value(self) -> FilterValue<'a, 's, T>
         ensures { filter_value_tree result ≡ given_value (Some (result_view self.entry)) }
@@ -52,7 +55,7 @@ impl<'a, 's, T: Queryable> CachedResult<'a, 's, T> {
         }
     }
 
-    /// How many values were given, each of a node, or one.
+    /// Returns the number of values in the result.
     pub fn count(&self) -> usize
         ensures { result ≡ length (trees_in (result_view self.now)) }
     {
@@ -91,7 +94,7 @@ fn push_each<'a, T: Queryable>(
 }
 
 impl<'a, 's, T: Queryable> Cache<'a, 's, T> {
-    /// For no constant.
+    /// Returns a cache for no constants.
     #[inline(always)]
     pub fn empty(alloc: Global) -> Self {
         Cache {
@@ -99,7 +102,7 @@ impl<'a, 's, T: Queryable> Cache<'a, 's, T> {
         }
     }
 
-    /// For so many constants, none of which is worked out.
+    /// Returns an empty cache for `count` constants.
     pub fn new(alloc: Global, count: usize) -> Result<Self, AllocError>
         ensures { IfOk result (λ c. (constants : Constants) (doc : Document) → length constants ≡ count → IsCacheOf constants doc c) }
     {
@@ -107,7 +110,7 @@ impl<'a, 's, T: Queryable> Cache<'a, 's, T> {
         Ok(Cache { slots })
     }
 
-    /// What the constant of this number gave, if it is worked out.
+    /// Returns the result of the constant of this number, if it is cached.
     #[inline(always)]
     pub fn get(&self, number: usize) -> Option<&CachedResult<'a, 's, T>>
         ensures { option_map (λ s. result_view s.now) result ≡ slot_at (slots_of self.now) number }
@@ -118,7 +121,7 @@ impl<'a, 's, T: Queryable> Cache<'a, 's, T> {
         }
     }
 
-    /// Whether the constant of this number is worked out. Where a pattern in it is too large, the walk halts.
+    /// Returns whether the constant of this number is cached. It fails where a pattern in it is too large.
     #[inline(always)]
     pub fn has(&self, number: usize) -> WalkResult<bool>
         ensures given { (constants : Constants) (doc : Document) → IsCacheOf constants doc self.now →
@@ -134,7 +137,7 @@ impl<'a, 's, T: Queryable> Cache<'a, 's, T> {
         }
     }
 
-    /// The value that the constant of this number gave; absent where it gave none.
+    /// Returns the value of the constant of this number; absent where it has none.
     #[inline(always)]
     pub fn value(&self, alloc: Global, number: usize) -> WalkResult<FilterValue<'a, 's, T>>
         ensures value { IfOk result (λ o. filter_value_tree o ≡ given_value (slot_at (slots_of self.now) number)) }
@@ -146,7 +149,7 @@ impl<'a, 's, T: Queryable> Cache<'a, 's, T> {
         }
     }
 
-    /// Whether the value that the constant of this number gave is true.
+    /// Returns whether the value of the constant of this number is true.
     #[inline(always)]
     pub fn is_true(&self, number: usize) -> bool
         ensures { result ≡ is_true (given_value (slot_at (slots_of self.now) number)) }
@@ -157,7 +160,7 @@ impl<'a, 's, T: Queryable> Cache<'a, 's, T> {
         }
     }
 
-    /// Keeps what the constant of this number gave.
+    /// Caches the result of the constant of this number.
     pub fn store(&mut self, number: usize, given: CachedResult<'a, 's, T>)
         requires { number < length (slots_of self.old) }
         ensures value { slot_at (slots_of self.new) number ≡ Some (result_view given.entry) }
@@ -168,7 +171,8 @@ impl<'a, 's, T: Queryable> Cache<'a, 's, T> {
         self.slots[number] = Some(given);
     }
 
-    /// Keeps that the constant of this number is refused, where that is why the walk halts. Nothing works it out again.
+    /// Returns the error, and caches that the constant is refused if a pattern is too large, so that it is not
+    /// evaluated again.
     pub fn store_error(&mut self, number: usize, halt: WalkError) -> WalkError
         requires { number < length (slots_of self.old) }
         ensures same { result ≡ halt }
@@ -187,7 +191,7 @@ impl<'a, 's, T: Queryable> Cache<'a, 's, T> {
     }
 }
 
-/// So many slots, with nothing in them.
+/// Returns `count` empty slots.
 fn empty_slots<'a, 's, T: Queryable>(
     alloc: Global,
     count: usize,
@@ -203,9 +207,9 @@ fn empty_slots<'a, 's, T: Queryable>(
 }
 
 impl<'a: 's, 's, T: Queryable> WalkContext<'a, 's, T> {
-    /// Keeps what the constant of this number gives. It is worked out when it is first asked; where a pattern in it is
-    /// too large, that is kept, and the walk halts. The result is false where the plan has no such constant, or a query
-    /// of which another is wanted: that counts as `$`, and nothing is kept of it.
+    /// Evaluates the constant of this number, unless it is cached. Where a pattern in it is too large, that is cached,
+    /// and the walk ends with an error. Returns false where the plan has no such constant for this demand. Such a
+    /// constant counts as `$`, and nothing is cached for it.
     #[cycle(walk)]
     pub fn ensure_cached(
         &self,
@@ -240,7 +244,7 @@ impl<'a: 's, 's, T: Queryable> WalkContext<'a, 's, T> {
         }
     }
 
-    /// What a constant gives. The way is at the root.
+    /// Returns the result of a constant. The current path is at the root.
     #[cycle(walk)]
     fn evaluate_constant(
         &self,
@@ -276,8 +280,8 @@ impl<'a: 's, 's, T: Queryable> WalkContext<'a, 's, T> {
         }
     }
 
-    /// The value that the constant of this number gave, absent where it gave none. A copy of one that a custom function
-    /// made is paid for.
+    /// Returns the value of the constant of this number; absent where it has none. A copy of a value that a custom
+    /// function made is paid for.
     pub fn cached_value(
         &self,
         number: usize,
@@ -295,8 +299,8 @@ impl<'a: 's, 's, T: Queryable> WalkContext<'a, 's, T> {
 }
 
 impl<'a: 's, 's, T: Queryable> WalkContext<'a, 's, T> {
-    /// Begins a walk at the root, with room for what the constants give. In a document that is too deep for all queries
-    /// from the root, those that are early are evaluated.
+    /// Begins a walk at the root, with room for the results of the constants. If the document is too deep for all
+    /// queries from the root to be on the stack together, some of them are evaluated here, before the walk.
     pub fn begin(&self, state: &mut WalkState<'a, 's, '_, T>) -> WalkResult<()>
         ensures ready { OnOk result (IsCacheCorrect self.now state.new.cache) }
         ensures current_path { OnOk result (state.new.current_path.steps.items ≡ []) }
@@ -307,8 +311,8 @@ impl<'a: 's, 's, T: Queryable> WalkContext<'a, 's, T> {
         self.precompute(state)
     }
 
-    /// Evaluates the queries from the root that are early, inner ones first, if the document is too deep for all. The way
-    /// is at the root then.
+    /// Evaluates the queries that are marked `BeforeWalk`, inner ones first, if the document is too deep. Then it sets
+    /// the current path to the root.
     fn precompute(&self, state: &mut WalkState<'a, 's, '_, T>) -> WalkResult<()>
         requires { IsCacheCorrect self.now state.old.cache }
         ensures ready { OnOk result (IsCacheCorrect self.now state.new.cache) }
@@ -328,9 +332,9 @@ impl<'a: 's, 's, T: Queryable> WalkContext<'a, 's, T> {
         Ok(())
     }
 
-    /// Whether the document is so deep that queries from the root in one another might not fit on the stack together.
-    /// It is looked at only where the query can need that, for a unit a value. Where units run out it counts as far as
-    /// it was looked at, and nothing is left for the walk.
+    /// Returns whether the document is so deep that nested queries from the root might not fit on the stack together.
+    /// The depth is measured only where the query can need it, at a cost of one unit for each value. Where the units
+    /// run out, only the depth seen so far counts, and nothing is left for the walk.
     fn stands_deep(&self, budget: &mut Budget) -> WalkResult<bool>
         ensures { IfErr result (IsWalkError self.now.limit [] (document self.now)) }
     {
@@ -338,14 +342,14 @@ impl<'a: 's, 's, T: Queryable> WalkContext<'a, 's, T> {
         if levels >= DOCUMENT_LEVELS {
             return Ok(false);
         }
-        let most = budget.left();
+        let most = budget.remaining();
         let mut looks = most.saturating_sub(1);
         let deep = is_deeper(self.alloc, self.root.value, levels, &mut looks)?;
         budget.spend(self.limit, most.saturating_sub(looks))?;
         Ok(deep)
     }
 
-    /// What is wanted of the query of this number, if it is early.
+    /// Returns what is demanded of the query of this number, if it is evaluated before the walk.
     fn precomputed_demand(&self, number: usize) -> Option<Demand> {
         match self.plan.constants.get(number)? {
             Constant::Nodes {
@@ -357,7 +361,8 @@ impl<'a: 's, 's, T: Queryable> WalkContext<'a, 's, T> {
         }
     }
 
-    /// Works out a query from the root. Where a pattern in it is too large that is kept, for the walk may never ask it.
+    /// Evaluates a query from the root. A pattern that is too large is cached and is no error here, because the walk
+    /// may never need that query.
     fn precompute_one(
         &self,
         number: usize,

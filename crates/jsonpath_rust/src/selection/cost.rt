@@ -1,4 +1,5 @@
-//! What work is spent for values: where a walk is limited, comparisons, functions and patterns cost what they look at.
+//! The units of work that values cost. In a limited walk, comparisons, functions and patterns cost as much as they
+//! read.
 ghost use Rattle.std.specs.Prelude.{◌-◌, ◌≡◌, ◌≤◌, IfErr, IfOk, length, map, min, option_map};
 ghost use Rattle.jsonpath_rust.specs.Prelude.Documents.{Memory, filter_value_tree, filter_ref_tree, tree_of};
 ghost use Rattle.jsonpath_rust.specs.Prelude.Selection.{compared_cost, cost, elements_cost, IsSpent, Limited, node_cost, pairs_cost, smaller_cost, text_bytes, valued};
@@ -15,21 +16,21 @@ use jsonpath_base::MatchKind;
 use jsonpath_base::engine::{CurrentPath, Origin, PatternCache, PatternKey, StepRef};
 use std::alloc::Global;
 
-/// How many bytes of a text are compared for one unit.
+/// The number of bytes of a text that are compared for one unit.
 const BYTES: usize = 16;
 
-/// How many bytes of names are copied for one unit.
+/// The number of bytes of names that are copied for one unit.
 const COPIED: usize = 64;
 
-/// How many steps of a location are copied for one unit. Each is a copy of its own.
+/// The number of steps of a location that are copied for one unit. Each step is a copy of its own.
 const STEPS: usize = 4;
 
-/// How many steps of a path are copied for one unit.
+/// The number of steps of a path that are written for one unit.
 const SPELLED: usize = 16;
 
 impl WorkLimit {
-    /// What `length` costs: a unit for each byte of a text and for each member of an object, of the document or made by
-    /// a custom function.
+    /// Returns what `length` costs: a unit for each byte of a text and for each member of an object, whether it is from
+    /// the document or from a custom function.
     #[inline(always)]
     pub fn length_cost<T: Queryable>(
         self,
@@ -44,7 +45,7 @@ impl WorkLimit {
         }
     }
 
-    /// What `match` or `search` costs: what it costs to read both texts, and to ask the pattern ([`PatternCache::cost`]).
+    /// Returns what `match` or `search` costs: reading both texts, and asking the pattern ([`PatternCache::cost`]).
     #[inline(always)]
     pub fn search_cost<T: Queryable>(
         self,
@@ -62,8 +63,8 @@ impl WorkLimit {
         }
     }
 
-    /// What a comparison costs: the size of the smaller side, or `most` where that is less. No more of them is looked
-    /// at.
+    /// Returns what a comparison costs: the size of the smaller side, but at most `most`. It visits no more values than
+    /// that.
     #[inline(always)]
     pub fn comparison_cost<T: Queryable>(
         self,
@@ -84,8 +85,8 @@ impl WorkLimit {
         }
     }
 
-    /// What a custom function costs beside the unit that each value is added for: the product of their sizes, or at
-    /// least `most`, where no more of them is looked at.
+    /// Returns what a custom function costs beside the unit for each argument: the product of the arguments' sizes. If
+    /// that is greater than `most`, it returns some number that is at least `most`, and visits no more values.
     #[inline(always)]
     pub fn custom_cost<T: Queryable>(
         self,
@@ -101,7 +102,7 @@ impl WorkLimit {
         }
     }
 
-    /// What a copy of a value costs: its size, or `most` where that is less. No more of it is looked at.
+    /// Returns what a copy of a value costs: its size, but at most `most`. It visits no more values than that.
     pub fn copy_cost<T: Queryable>(
         self,
         alloc: Global,
@@ -118,7 +119,7 @@ impl WorkLimit {
     }
 }
 
-/// How many bytes the text has, if it is one.
+/// Returns the number of bytes of a text, or 0 for any other value.
 fn text_bytes<T: Queryable>(side: &FilterValueRef<'_, '_, T>) -> usize
     ensures { result ≡ text_bytes (filter_ref_tree side.now) }
 {
@@ -128,7 +129,8 @@ fn text_bytes<T: Queryable>(side: &FilterValueRef<'_, '_, T>) -> usize
     }
 }
 
-/// What it costs to compare a pattern with one that is kept: a unit for each byte, of one in the query for each few.
+/// Returns what it costs to compare a pattern with a cached one: a unit for each byte of a pattern in the document, or
+/// for every 16 bytes of a pattern in the query.
 fn pattern_cost<T: Queryable>(side: &FilterValueRef<'_, '_, T>) -> usize {
     match value_in(side) {
         Some(_value) => text_bytes(side),
@@ -136,8 +138,8 @@ fn pattern_cost<T: Queryable>(side: &FilterValueRef<'_, '_, T>) -> usize {
     }
 }
 
-/// How many bytes the text has, or how many members the object, if it is one of the document or one that a custom
-/// function made; else 0.
+/// Returns the number of bytes of a text, or of members of an object, if it is from the document or from a custom
+/// function; else 0.
 #[inline(never)]
 fn cost_of_length<T: Queryable>(
     alloc: Global,
@@ -155,7 +157,7 @@ fn cost_of_length<T: Queryable>(
 }
 
 impl Budget {
-    /// Spends what it costs to give a node to a sink.
+    /// Spends what it costs to pass the current node to a sink.
     #[inline(always)]
     pub fn spend_path<T: Queryable>(
         &mut self,
@@ -172,9 +174,10 @@ impl Budget {
     }
 }
 
-/// What it costs to give a node to a sink. Where that keeps a path or a location, it is a unit for each few bytes of
-/// names in it, and for each few steps. Where it marks a location, it is a unit for each step that is not settled and for
-/// each few bytes of its name, and what a copy costs that is put there.
+/// Returns what it costs to pass the current node to a sink. A sink that stores paths or locations costs a unit for
+/// every 64 bytes of names, and for every 16 steps of a path or 4 steps of a location. A sink that marks locations
+/// costs a unit for each step that is not shared and for every 16 bytes of its name, and what a copy of the value that
+/// is put there costs.
 fn path_cost<T: Queryable>(sink: &Sink<'_, T>, current_path: &CurrentPath<'_>) -> usize
     ensures { node_cost sink.now (length current_path.now.steps.items) ≤ result }
 {
@@ -189,14 +192,14 @@ fn path_cost<T: Queryable>(sink: &Sink<'_, T>, current_path: &CurrentPath<'_>) -
     }
 }
 
-/// What the names on the way cost, and what their steps do beside.
+/// Returns what the names of the current path cost, plus `steps`.
 fn names_cost(current_path: &CurrentPath<'_>, steps: usize) -> usize
     ensures { steps ≤ result }
 {
     (name_bytes(current_path) / COPIED).saturating_add(steps)
 }
 
-/// How many bytes the names on the way have.
+/// Returns the number of bytes of the names of the current path.
 fn name_bytes(current_path: &CurrentPath<'_>) -> usize {
     let mut bytes: usize = 0;
     for step in &current_path.steps {
@@ -207,8 +210,8 @@ fn name_bytes(current_path: &CurrentPath<'_>) -> usize {
     bytes
 }
 
-/// What it costs to search a text for a pattern: a unit for each byte of the text, what comparing the pattern costs, and
-/// what asking it costs.
+/// Returns what it costs to search a text for a pattern: a unit for each byte of the text, what comparing the pattern
+/// costs, and what asking it costs.
 fn cost_of_search<T: Queryable>(
     alloc: Global,
     finders: &PatternCache<'_, '_>,
@@ -229,7 +232,7 @@ fn cost_of_search<T: Queryable>(
     Ok(cost.saturating_add(read))
 }
 
-/// The value, if it is one of the document or one that a custom function made.
+/// Returns the value, if it is from the document or from a custom function.
 fn value_in<'k, T: Queryable>(side: &FilterValueRef<'k, '_, T>) -> Option<WholeRef<'k, T>>
     ensures { option_map tree_of result ≡ valued side.now }
 {
@@ -239,8 +242,8 @@ fn value_in<'k, T: Queryable>(side: &FilterValueRef<'k, '_, T>) -> Option<WholeR
     }
 }
 
-/// The size of the smaller of two values, or `most` where that is less. The time goes with that, not with the larger
-/// one.
+/// Returns the size of the smaller of two values, but at most `most`. It takes time by that size, not by the size of
+/// the larger value.
 #[inline(never)]
 fn smaller_size<T: Queryable>(
     alloc: Global,
@@ -256,8 +259,8 @@ fn smaller_size<T: Queryable>(
     size_within(alloc, right, size)
 }
 
-/// A bound that the size of the smaller of two values keeps, or `most`. Each is counted as far as some bound, which is
-/// raised until one of them lies below it.
+/// Returns an upper bound of the size of the smaller of two values, or `most`. Both are measured up to a bound, which
+/// is raised until the size of one of them is below it.
 fn bound_of_smaller<T: Queryable>(
     alloc: Global,
     left: WholeRef<'_, T>,
@@ -281,7 +284,8 @@ fn bound_of_smaller<T: Queryable>(
     Ok(most)
 }
 
-/// The product of the sizes of these values, or at least `most`, where no more of them is looked at.
+/// Returns the product of the sizes of these values. If that is greater than `most`, it returns some number that is at
+/// least `most`, and visits no more values.
 fn size_of_arguments<T: Queryable>(
     alloc: Global,
     args: &Args<'_, T>,
@@ -300,8 +304,8 @@ fn size_of_arguments<T: Queryable>(
     Ok(product)
 }
 
-/// The size of a value, or `most` where that is less: one for each value in it, and for each few bytes of its texts and
-/// names. It is not counted further than that, and where `most` is 0 or 1 the value is not looked at.
+/// Returns the size of a value, but at most `most`: one for each value in it, and one for every 16 bytes of its texts
+/// and names. It measures no further than that. Where `most` is 0 or 1 the value is not visited.
 #[cycle(size)]
 fn size_within<T: Queryable>(
     alloc: Global,
@@ -318,8 +322,8 @@ fn size_within<T: Queryable>(
     Ok(inside.saturating_add(1))
 }
 
-/// The size of a value without the one for itself, or `most` where that is less. Where `most` is 0 the value is not
-/// looked at, and where an object has so many members, they are not listed.
+/// Returns the size of a value without the one for itself, but at most `most`. Where `most` is 0 the value is not
+/// visited. The members of an object are not listed where there are at least `most` of them.
 #[cycle(size)]
 fn inside_size<T: Queryable>(
     alloc: Global,
@@ -352,7 +356,7 @@ fn inside_size<T: Queryable>(
     }
 }
 
-/// The sizes of these elements together, or `most` where that is less.
+/// Returns the sum of the sizes of these elements, but at most `most`.
 #[cycle(size)]
 fn elements_size<T: Queryable>(
     alloc: Global,
@@ -372,9 +376,8 @@ fn elements_size<T: Queryable>(
     Ok(size)
 }
 
-/// The sizes of these members together, with their names, or `most` where that is less. Each counts one from the
-/// beginning, for it is listed: so all the lists that are made of objects in one another have fewer than `most`
-/// members.
+/// Returns the sum of the sizes of these members, with their names, but at most `most`. Each member counts one from the
+/// beginning, because it is listed. So the lists of all nested objects together have fewer than `most` members.
 #[cycle(size)]
 fn members_size<T: Queryable>(
     alloc: Global,

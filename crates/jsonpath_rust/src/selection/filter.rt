@@ -1,4 +1,8 @@
-//! Whether filters hold (RFC 9535, 2.3.5).
+//! Filters: whether they hold at the current node (RFC 9535, 2.3.5).
+//!
+//! This file evaluates logical expressions, tests and comparisons. A comparison whose sides can be borrowed is
+//! evaluated without a walk. For that the file holds the look-ups by names and indexes, the counts of children, and the
+//! function calls that need no walk (`is_direct`).
 ghost use Rattle.jsonpath_base.specs.Prelude.Documents.{Document, Node, answer, argued, argument_patterns, as_truth, children, compares, each_holds, filter_patterns, filters_patterns, holds, operator_view, relative, root_node, some_holds, step_view, stepped, test_argument, value_at, value_of};
 ghost use Rattle.jsonpath_base.specs.documents.Functions as functions;
 ghost use Rattle.jsonpath_base.specs.documents.inner.Singular as singular;
@@ -19,8 +23,8 @@ use crate::selection::walk::{WalkContext, WalkState};
 use jsonpath_parser::model::{Operator, SingularQuerySegment};
 
 impl<'a: 's, 's, T: Queryable> WalkContext<'a, 's, T> {
-    /// Whether a filter holds at a value, to which the way leads. A comparison is asked at once, without `filter_holds`
-    /// between.
+    /// Returns whether a filter holds at the current node. A comparison is evaluated at once, without a call of
+    /// `filter_holds`.
     #[cycle(walk)]
     #[tactic(auto, using(crate::proofs::laws::selection::PlanEquations::plan_equations))]
     #[inline(always)]
@@ -48,7 +52,7 @@ impl<'a: 's, 's, T: Queryable> WalkContext<'a, 's, T> {
         self.filter_holds(filter, at, state)
     }
 
-    /// Whether a filter holds at a value, to which the way leads; `is_met` is the faster way to ask a comparison.
+    /// Returns whether a filter holds at the current node. `is_met` is faster for a comparison.
     #[cycle(walk)]
     #[tactic(auto, using(crate::proofs::laws::selection::PlanEquations::plan_equations))]
     pub fn filter_holds(
@@ -87,7 +91,7 @@ impl<'a: 's, 's, T: Queryable> WalkContext<'a, 's, T> {
         }
     }
 
-    /// Whether some part holds.
+    /// Returns whether some operand of `||` holds.
     #[cycle(walk)]
     fn some_holds(
         &self,
@@ -108,7 +112,7 @@ impl<'a: 's, 's, T: Queryable> WalkContext<'a, 's, T> {
         Ok(false)
     }
 
-    /// Whether every part holds.
+    /// Returns whether every operand of `&&` holds.
     #[cycle(walk)]
     fn each_holds(
         &self,
@@ -129,8 +133,8 @@ impl<'a: 's, 's, T: Queryable> WalkContext<'a, 's, T> {
         Ok(true)
     }
 
-    /// Whether a part tests true: a query has a node (RFC 9535, 2.3.5.2.1), a call returns true. Names and indexes are
-    /// looked up, and nothing is made for them.
+    /// Returns whether a test holds: its query has a node (RFC 9535, 2.3.5.2.1), or its call returns true. A query of
+    /// names and indexes is looked up without an allocation.
     #[cycle(walk)]
     #[tactic(auto, using(crate::proofs::laws::selection::PlanEquations::plan_equations))]
     #[inline(always)]
@@ -163,8 +167,8 @@ impl<'a: 's, 's, T: Queryable> WalkContext<'a, 's, T> {
         }
     }
 
-    /// Whether a comparison holds. Where both sides are at hand they are compared as they are lent, and nothing is made
-    /// for them.
+    /// Returns whether a comparison holds. Where both sides can be borrowed, they are compared in place, and nothing is
+    /// allocated for them.
     #[cycle(walk)]
     pub fn comparison_holds(
         &self,
@@ -191,7 +195,7 @@ impl<'a: 's, 's, T: Queryable> WalkContext<'a, 's, T> {
         self.compare_evaluated(comparison, at, state)
     }
 
-    /// The same, where a side is not at hand.
+    /// Evaluates both sides, and returns whether the comparison holds.
     #[cycle(walk)]
     #[inline(never)]
     fn compare_evaluated(
@@ -221,7 +225,7 @@ impl<'a: 's, 's, T: Queryable> WalkContext<'a, 's, T> {
 }
 
 impl<'a: 's, 's, T: Queryable> WalkContext<'a, 's, T> {
-    /// Whether a comparison holds at a value; None where one of its sides is not at hand.
+    /// Returns whether a comparison holds at the current node, or None where a side cannot be borrowed.
     #[inline(always)]
     pub fn compare_borrowed(
         &self,
@@ -237,7 +241,8 @@ impl<'a: 's, 's, T: Queryable> WalkContext<'a, 's, T> {
             (value_of (expr_view (constants_of self.now) comparison.entry.right.now Single) (document self.now) n))) }
         ensures halts { IfErr result (IsWalkError self.now.limit [] (document self.now)) }
     {
-        // The right side is asked first, at no cost: the left one is paid for only where both are.
+        // The right side is checked first, because that is free: the left side is paid for only where both can be
+        // borrowed.
         if !is_at_hand(comparison.right, cache) {
             return Ok(None);
         }
@@ -251,7 +256,7 @@ impl<'a: 's, 's, T: Queryable> WalkContext<'a, 's, T> {
         Ok(Some(held))
     }
 
-    /// Whether the operator holds of these sides. What that costs is spent first.
+    /// Spends what the comparison costs, and returns whether the operator holds between the sides.
     #[inline(always)]
     pub fn compare_charged<'k>(
         &self,
@@ -263,7 +268,7 @@ impl<'a: 's, 's, T: Queryable> WalkContext<'a, 's, T> {
         ensures holds { IfOk result (λ b. b ≡ compares (operator_view operator) (filter_ref_tree left.entry) (filter_ref_tree right.entry)) }
         ensures halts { IfErr result (IsWalkError self.now.limit [] (document self.now)) }
     {
-        let most = budget.left().saturating_add(1);
+        let most = budget.remaining().saturating_add(1);
         let cost = self
             .limit
             .comparison_cost(self.alloc, (&left, &right), most)?;
@@ -271,7 +276,7 @@ impl<'a: 's, 's, T: Queryable> WalkContext<'a, 's, T> {
         Ok(compares(operator, &left, &right))
     }
 
-    /// The value of a part; None where it is not at hand.
+    /// Returns the value of an expression, or None where it cannot be borrowed.
     #[inline(always)]
     fn borrowed_value<'k>(
         &self,
@@ -290,8 +295,8 @@ impl<'a: 's, 's, T: Queryable> WalkContext<'a, 's, T> {
             Expr::Literal(literal) => Ok(Some(FilterValueRef::Plain(scalar_of(literal)))),
             Expr::Pattern(text, _number) => Ok(Some(FilterValueRef::Plain(Scalar::Text(text)))),
             Expr::Lookup(steps) => {
-                let found = self.look_up(steps, at, budget)?;
-                Ok(Some(FilterValueRef::from_ref(found)))
+                let node = self.look_up(steps, at, budget)?;
+                Ok(Some(FilterValueRef::from_ref(node)))
             }
             Expr::Call(call) => self.direct_answer(call, at, budget),
             Expr::Constant(number) => Ok(self.cached_ref(*number, cache)),
@@ -299,7 +304,7 @@ impl<'a: 's, 's, T: Queryable> WalkContext<'a, 's, T> {
         }
     }
 
-    /// The value of the constant of this number; None where it is not worked out yet.
+    /// Returns the value of the constant of this number, or None where it is not cached yet.
     #[inline(always)]
     fn cached_ref<'k>(
         &self,
@@ -317,7 +322,7 @@ impl<'a: 's, 's, T: Queryable> WalkContext<'a, 's, T> {
     }
 }
 
-/// Whether a part is at hand: a literal, a look-up, a constant that is worked out, a direct call.
+/// Returns whether the value of an expression can be borrowed: a literal, a look-up, a cached constant, a direct call.
 #[inline(always)]
 fn is_at_hand<T: Queryable>(part: &Expr, cache: &Cache<'_, '_, T>) -> bool {
     match part {
@@ -328,11 +333,11 @@ fn is_at_hand<T: Queryable>(part: &Expr, cache: &Cache<'_, '_, T>) -> bool {
     }
 }
 
-/// How many steps are taken for one unit.
+/// The number of steps that a look-up takes for one unit.
 const STEPS: usize = 16;
 
 impl<'a: 's, 's, T: Queryable> WalkContext<'a, 's, T> {
-    /// The value that these steps lead to, for a unit for each few of them.
+    /// Returns the value that these steps lead to. It costs one unit for every 16 steps.
     #[inline(always)]
     pub fn look_up<'k>(
         &self,
@@ -342,7 +347,7 @@ impl<'a: 's, 's, T: Queryable> WalkContext<'a, 's, T> {
     ) -> WalkResult<Option<WholeRef<'k, T>>>
         ensures value { IfOk result (λ o. option_map tree_of o ≡ value_at (map step_view steps.now) (tree_of at.entry)) }
         ensures paid { IfOk result (λ o. self.now.limit ≡ Limited →
-            budget.new.left + length steps.now / 16 ≡ budget.old.left) }
+            budget.new.remaining + length steps.now / 16 ≡ budget.old.remaining) }
         ensures halts { IfErr result (IsWalkError self.now.limit [] (document self.now)) }
     {
         budget.spend_some(self.limit, steps.len() / STEPS)?;
@@ -350,7 +355,7 @@ impl<'a: 's, 's, T: Queryable> WalkContext<'a, 's, T> {
     }
 }
 
-/// The value that these steps lead to.
+/// Returns the value that these steps lead to.
 fn value_at<'a, T: Queryable>(
     steps: &[SingularQuerySegment],
     at: WholeRef<'a, T>,
@@ -368,7 +373,7 @@ fn value_at<'a, T: Queryable>(
     value_at(rest, child)
 }
 
-/// The value that a step leads to.
+/// Returns the value that a step leads to.
 #[inline(always)]
 fn stepped<'a, T: Queryable>(
     step: &SingularQuerySegment,
@@ -386,8 +391,8 @@ fn stepped<'a, T: Queryable>(
 }
 
 impl<'a: 's, 's, T: Queryable> WalkContext<'a, 's, T> {
-    /// How many children the value that these steps lead to has; 0 where there is no such value. Each member of an
-    /// object costs a unit, for the type may have to list them all.
+    /// Returns the number of children of the value that these steps lead to, or 0 where there is no such value. Each
+    /// member of an object costs a unit, because the type may have to list them all.
     pub fn count_children(
         &self,
         steps: &[SingularQuerySegment],
@@ -404,7 +409,7 @@ impl<'a: 's, 's, T: Queryable> WalkContext<'a, 's, T> {
         }
     }
 
-    /// How many children a value has.
+    /// Returns the number of children of a value.
     fn child_count(&self, parent: WholeRef<'_, T>, budget: &mut Budget) -> WalkResult<usize>
         ensures count { IfOk result (λ k. k ≡ length (children (root_node (tree_of parent.entry)))) }
         ensures halts { IfErr result (IsWalkError self.now.limit [] (document self.now)) }
@@ -423,7 +428,7 @@ impl<'a: 's, 's, T: Queryable> WalkContext<'a, 's, T> {
 }
 
 impl<'a: 's, 's, T: Queryable> WalkContext<'a, 's, T> {
-    /// What a call returns that [`is_direct`]; None of any other.
+    /// Returns what a direct call returns ([`is_direct`]), or None for any other call.
     #[inline(always)]
     pub fn direct_answer<'k>(
         &self,
@@ -458,7 +463,7 @@ impl<'a: 's, 's, T: Queryable> WalkContext<'a, 's, T> {
         }
     }
 
-    /// The length of the value that these steps lead to (2.4.4).
+    /// Returns the length of the value that these steps lead to (RFC 9535, 2.4.4).
     #[inline(always)]
     fn direct_length<'k>(
         &self,
@@ -476,7 +481,7 @@ impl<'a: 's, 's, T: Queryable> WalkContext<'a, 's, T> {
         }
     }
 
-    /// The length of a value (2.4.4).
+    /// Returns the length of a value (RFC 9535, 2.4.4).
     #[inline(always)]
     fn length_at<'k>(
         &self,
@@ -497,7 +502,8 @@ impl<'a: 's, 's, T: Queryable> WalkContext<'a, 's, T> {
     }
 }
 
-/// Whether a call is `length` or `value` of a node that is looked up, or `count` of its children.
+/// Returns whether a call is `length` or `value` of a node that is looked up, or `count` of the children of such a
+/// node.
 #[inline(always)]
 pub fn is_direct(call: &Call) -> bool {
     match call {
@@ -508,7 +514,7 @@ pub fn is_direct(call: &Call) -> bool {
     }
 }
 
-/// The steps of the query that a part is, if that is a look-up.
+/// Returns the steps of a look-up, or None for any other expression.
 #[inline(always)]
 pub fn lookup_in(part: &Expr) -> Option<&[SingularQuerySegment]>
     ensures { (constants : Constants) (w : Demand) →
@@ -521,7 +527,7 @@ pub fn lookup_in(part: &Expr) -> Option<&[SingularQuerySegment]>
     }
 }
 
-/// The steps to the value whose children a part is, if it is these, where they are counted.
+/// Returns the steps to the value whose children are counted, or None for any other expression.
 #[inline(always)]
 fn children_in(part: &Expr) -> Option<&[SingularQuerySegment]>
     ensures { (constants : Constants) →

@@ -1,4 +1,5 @@
-//! How much work a call may take: any amount, or a number of units.
+//! Limits of work: what a caller may set (`Unlimited` or `Units`), why a limited call fails (`LimitError`), and the
+//! budget that a walk spends.
 ghost use Rattle.jsonpath_base.specs.documents.Document.{Document};
 ghost use Rattle.jsonpath_base.specs.documents.Patterns.{IsStop, segments_patterns};
 ghost use Rattle.jsonpath_parser.specs.tree.Syntax.{Query};
@@ -18,80 +19,82 @@ use jsonpath_parser::model::JpQuery;
 use std::alloc::Global;
 use thiserror::Error;
 
-/// How much work each call of a runner may take: [`Unlimited`] or [`Units`].
+/// Says how much work each call of a runner may take: [`Unlimited`] or [`Units`].
 pub trait Limit: Drop {
-    /// Why a call has no result.
+    /// The reason why a call has no result.
     type Error: Drop;
 
     /// Whether units are counted.
     ghost counts: { Bool };
 
-    /// What a reason means for a query and a document, of a call that is free or not.
+    /// What an error means for a query and a document, of a call that is free or not.
     ghost stops: { Bool → Query → Document → Self.Error → Type 0 };
 
-    /// The units of a call that is not free, if they are counted.
+    /// Returns the units of a call that is not free, if they are counted.
     fn units(&self) -> Option<usize>
         ensures { is_some result ≡ counts };
 
-    /// What a caller is told of a walk that halted. A call is free only where its query asks no pattern.
+    /// Returns the error of a call whose walk ended with an error. A call is free only where its query asks no pattern.
     fn error(alloc: Global, halt: WalkError) -> Self::Error
         ensures { (free : Bool) (q : Query) (doc : Document) → (IsTrue free → segments_patterns q ≡ []) →
             IsWalkError (limit_of counts free) (segments_patterns q) doc halt → stops free q doc result };
 }
 
-/// Any amount of work.
+/// No limit of work.
 #[derive(Debug, Drop)]
 pub struct Unlimited;
 
-/// A number of units of work for each call: for untrusted queries. Where they are not enough, a call returns
+/// A number of units of work for each call, for untrusted queries. Where they are not enough, a call returns
 /// [`LimitError::Exhausted`].
 ///
 /// A singular query, such as `$.a[0]` (RFC 9535, 2.3.5.1), looks up no more than the names and indexes that it has. It
-/// is free, and no call returns `Spent` for it. So is a condition that tests one, such as `!@.error[0]`. Any other
-/// query spends these:
+/// is free, and no call of it returns [`LimitError::Exhausted`]. A condition that tests one singular query, such as
+/// `!@.error[0]`, is free too. Any other query spends these units:
 ///
-/// - One for each child that a `*`, a slice or `..` looks at, and two for each that a filter is tried on. These are all
-///   members of an object, and all elements of a list but those that `first`, `only`, `has_node` and existence tests do
-///   not look at.
-/// - One for each selector of several in one segment, and for each operand of `&&` and `||`.
-/// - One for each 16 names and indexes of a look-up in a filter, such as `@.a.b`.
-/// - One for each value in the smaller side of a comparison, and for each 16 bytes of its texts and names.
-/// - One for each byte of a text of which `length` is asked, and for each member of an object.
-/// - For `match` and `search`, one for each byte of the text that is searched, and for each byte of a pattern of the
-///   document or each 16 bytes of a pattern of the query.
-/// - For a pattern that is not kept 256, and one for each of its characters where counted repetitions are written out,
-///   but 2^20 at most: what is larger `regex` refuses. A class such as `\w` or `\p{L}` counts as 700, one such as `\d`
-///   as 71, a test for the end of a word such as `\b` as 8, and a pattern with the flag `x` as the largest. In addition
-///   100 for each group, 700 for each range after the flag `i`, and one for each literal that `regex` copies to write
-///   out a choice of few, or to look for a run of them.
-/// - For each byte of a text that is searched, one for each eight of these characters, where a class such as `\w` has
+/// - One for each child that a `*`, a slice or `..` visits, and two for each child that a filter is evaluated on. These
+///   are all members of an object and all elements of a list, except the elements that `first`, `only`, `has_node` and
+///   existence tests do not visit.
+/// - One for each selector where a segment has several, and one for each operand of `&&` and `||`.
+/// - One for every 16 names and indexes of a look-up in a filter, such as `@.a.b`.
+/// - One for each value in the smaller side of a comparison, and one for every 16 bytes of its texts and names.
+/// - For `length`, one for each byte of a text, or for each member of an object.
+/// - For `match` and `search`, one for each byte of the text that is searched, and one for each byte of a pattern in
+///   the document or for every 16 bytes of a pattern in the query.
+/// - For a pattern that is not cached, 256, and one for each of its characters where counted repetitions are written
+///   out, but 2^20 at most, because `regex` refuses what is larger. A class such as `\w` or `\p{L}` counts as 700, one
+///   such as `\d` as 71, a test for the end of a word such as `\b` as 8, and a pattern with the flag `x` as the
+///   largest. In addition 100 for each group, 700 for each range after the flag `i`, and one for each literal that
+///   `regex` copies to write out a choice of few, or to look for a run of them.
+/// - For each byte of a text that is searched, one for every eight of these characters, where a class such as `\w` has
 ///   eight.
-/// - One for each value that a custom function is given, before it is, and the product of their sizes, counted so.
+/// - One for each value that is passed to a custom function, spent before the call, and the product of the sizes of
+///   these values. A size is the number of values in a value, and one for every 16 bytes of its texts and names.
 ///   `count` and `value` spend what their walks spend.
-/// - One for each 64 bytes of the names in a path or a location that is returned. In addition one for each 16 steps of
-///   a path and for each 4 steps of a location.
-/// - One for each step of a location that is deleted or replaced, and for each 16 bytes of that step's name; none for
-///   the first steps that the location before it has too. In addition, for each location that is replaced, one for each
-///   value in what is put there and for each 16 bytes of its texts and names.
-/// - One for each value of the document that is looked at to see how deep it is. It is looked at where at least three
-///   queries from the root are in one another.
+/// - One for every 64 bytes of the names in a path or a location that is returned. In addition one for every 16 steps
+///   of a path and for every 4 steps of a location.
+/// - One for each step of a location that is deleted or replaced, and one for every 16 bytes of that step's name. The
+///   first steps that are the same as in the location before it are free. In addition, for each location that is
+///   replaced, one for each value in what is put there and one for every 16 bytes of its texts and names.
+/// - One for each value of the document that is visited to measure its depth. The depth is measured only where at least
+///   three deep queries from the root are in one another, or more than ten shallow ones. A query is deep if its walk
+///   can reach any level of the document: it has a `..`, more than eight segments, or a filter with a query from `@`
+///   that takes a walk. Any other query is shallow.
 ///
 /// The names and indexes of a walk cost nothing, and neither do parentheses, so a unit takes longer where the query is
-/// longer. How long it takes is measured, and no clause says it. What is spent at once is counted first, as far as units
-/// are left. So a call that returns `Spent` may have listed the members of one object, and counted a few times as many
-/// values as it had units. A type that leaves `member_count` to its default also lists an object each time that its size
-/// is asked for in a comparison, for a unit.
+/// longer. The time of a unit is measured; no clause states it. What is spent at once is counted first, as far as units
+/// are left. So a call that returns [`LimitError::Exhausted`] may have listed the members of one object, and may have
+/// counted a few times as many values as it had units. A type with the default `member_count` also lists an object each
+/// time that a comparison needs its size, for one unit.
 ///
-/// A unit holds on to about a kilobyte of memory at the worst that was tried; patterns keep up to a gigabyte beside that.
-/// The text of a query takes memory by its length, which no unit pays: bound that too. Where the system refuses a
-/// request, as under `ulimit -v`, a call is refused by `OutOfMemory`.
+/// A unit takes about a kilobyte of memory in the worst case that was tried. Patterns take up to a gigabyte in
+/// addition. The text of a query takes memory by its length, and no unit pays for that, so limit the length too. Where
+/// the system refuses memory, as under `ulimit -v`, a call returns `OutOfMemory`.
 #[derive(Debug, Drop)]
 pub struct Units {
     count: usize,
 }
 
 impl Units {
-    /// So many.
     pub(crate) fn new(count: usize) -> Self {
         Units { count }
     }
@@ -132,7 +135,7 @@ impl Limit for Units {
     }
 }
 
-/// The work that a query may take. A singular one is free.
+/// Returns the budget of a query. A singular query is free.
 pub fn query_budget<L: Limit>(limits: &L, query: &JpQuery) -> Budget
     ensures { result.limit ≡ limit_of L.counts (is_singular (query_view query.now)) }
 {
@@ -148,7 +151,7 @@ pub fn query_budget<L: Limit>(limits: &L, query: &JpQuery) -> Budget
     }
 }
 
-/// The work that a condition may take, of its query `$[?..]`. A test of a singular query is free.
+/// Returns the budget of a condition, from its query `$[?..]`. A test of a singular query is free.
 pub fn condition_budget<L: Limit>(limits: &L, query: &JpQuery) -> Budget
     ensures { result.limit ≡ limit_of L.counts (tests_singular (expression_of (query_view query.now))) }
 {
@@ -164,13 +167,13 @@ pub fn condition_budget<L: Limit>(limits: &L, query: &JpQuery) -> Budget
     }
 }
 
-/// Why a call under a limit of work has no result.
+/// The reason why a call with a limit of work has no result.
 #[derive(Debug, Drop, PartialEq, Error)]
 pub enum LimitError {
     /// The units were not enough.
     #[error("the units of work were not enough")]
     Exhausted,
-    /// The call is refused, as one without a limit.
+    /// The call fails for a reason that has nothing to do with the limit.
     #[error("{0}")]
     Query(JsonPathError),
 }
@@ -192,68 +195,68 @@ pub enum WorkLimit {
     Limited,
 }
 
-/// The work that is left to a walk, in units, and whether it is limited.
+/// The units of work that are left to a walk, and whether they are limited.
 #[derive(Clone, Copy, Debug)]
 pub struct Budget {
     pub limit: WorkLimit,
-    left: usize,
+    remaining: usize,
 }
 
 impl Budget {
-    /// Any amount of work.
+    /// Returns a budget without a limit.
     pub fn unlimited() -> Self
-        ensures { result.limit ≡ Unlimited }
+        ensures { result.limit ≡ WorkLimit.Unlimited }
     {
         Budget {
             limit: WorkLimit::Unlimited,
-            left: usize::MAX,
+            remaining: usize::MAX,
         }
     }
 
-    /// So many units.
+    /// Returns a budget of `units` units.
     pub fn of(units: usize) -> Self
         ensures limit { result.limit ≡ Limited }
-        ensures left { result.left ≡ units }
+        ensures remaining { result.remaining ≡ units }
     {
         Budget {
             limit: WorkLimit::Limited,
-            left: units,
+            remaining: units,
         }
     }
 
-    /// How many units are left.
-    pub fn left(&self) -> usize {
-        self.left
+    /// Returns how many units are left.
+    pub fn remaining(&self) -> usize {
+        self.remaining
     }
 
-    /// Takes so many units from what is left. Where less is left, a limited walk halts, and nothing is left then; one
-    /// without a limit begins to count anew.
+    /// Spends units. Where fewer are left, a limited walk ends with an error and nothing is left, and a walk without a
+    /// limit starts again with the greatest number.
     #[inline(always)]
     pub fn spend(&mut self, limit: WorkLimit, units: usize) -> WalkResult<()>
-        ensures paid { OnOk result (limit ≡ Limited → self.new.left + units ≡ self.old.left) }
-        ensures short { OnErr result (self.old.left < units) }
+        ensures paid { OnOk result (limit ≡ Limited → self.new.remaining + units ≡ self.old.remaining) }
+        ensures short { OnErr result (self.old.remaining < units) }
         ensures refused { IfErr result (IsSpent limit) }
     {
-        if units <= self.left {
-            self.left -= units;
+        if units <= self.remaining {
+            self.remaining -= units;
             return Ok(());
         }
         match limit {
             WorkLimit::Unlimited => {
-                self.left = usize::MAX;
+                self.remaining = usize::MAX;
                 Ok(())
             }
             WorkLimit::Limited => {
-                self.left = 0;
+                self.remaining = 0;
                 Err(WalkError::Spent)
             }
         }
     }
 
-    /// The same, where it is often none: nothing is looked at for that.
+    /// Spends units, faster than `spend` where that is often 0.
     #[inline(always)]
     pub fn spend_some(&mut self, limit: WorkLimit, units: usize) -> WalkResult<()>
-        ensures paid { OnOk result (limit ≡ Limited → self.new.left + units ≡ self.old.left) }
+        ensures paid { OnOk result (limit ≡ Limited → self.new.remaining + units ≡ self.old.remaining) }
         ensures refused { IfErr result (IsSpent limit) }
     {
         if units == 0 {

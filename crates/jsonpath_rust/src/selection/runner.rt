@@ -1,10 +1,11 @@
-//! A prepared query that is asked of one document after another, under a limit of work or none.
+//! Runs a prepared query on one document after another, with or without a limit of work.
+//!
+//! This file holds the public `Runner`, and one walk over one document (`Request`, `run`).
 ghost use Rattle.jsonpath_base.specs.LocationSetViews.{sorted_count, sorted_set};
 ghost use Rattle.jsonpath_base.specs.Prelude.Documents.{AreLocations, AreNodes, ArePaths, AreValues, Document, distinct_count, holds, is_among, nodelist, query_shown, query_view, root_node, segments_patterns, selected};
 ghost use Rattle.jsonpath_rust.specs.Prelude.Calls.{Runs};
 ghost use Rattle.jsonpath_rust.specs.Prelude.Documents.{document_at, tree_of};
 ghost use Rattle.jsonpath_rust.specs.Prelude.Selection.{Feeds, IsConditionStop, IsCount, IsFirst, IsLocationSetOf, IsOnlyNode, IsStopOf, IsWalkError, TellsWhether, expression_of, feed, plan_view, planned_view, runner_view, seen};
-ghost use Rattle.jsonpath_rust.specs.selection.inner.Planned.{IsPlanOf, IsPlanOf-prop};
 ghost use Rattle.std.specs.Prelude.{IfErr, IfOk, Some, codes, ◌++◌, ◌≡◌};
 
 use crate::documents::nodes::{WholeNodes, WholeValues};
@@ -15,6 +16,7 @@ use crate::documents::{QueryPath, QueryRef};
 use crate::selection::condition::evaluate;
 use crate::selection::limits::{Budget, Limit, Units, Unlimited, condition_budget, query_budget};
 use crate::selection::plan::Plan;
+use crate::selection::prepared::Planned;
 use crate::selection::sink::{Demand, Only, Sink};
 use crate::selection::walk::{WalkContext, WalkState};
 use jsonpath_base::Step;
@@ -26,23 +28,23 @@ use std::alloc::Global;
 use std::fmt::{Debug, Formatter, Write};
 use std::{fmt, mem};
 
-/// What runs a prepared query on one document after another, under a limit of work or none. Beside what [`Prepared`]
-/// keeps, what searches for its patterns stays from one call to the next, so that only the first call makes it.
+/// Runs a [`Prepared`] query on one document after another, with or without a limit of work. It caches the matchers of
+/// the query's patterns from one call to the next, so only the first call makes them.
 ///
 /// For untrusted queries the work of each call can be limited, by [`Runner::limited`].
 ///
 /// # Errors
 ///
-/// - `InvalidJsonPath` where `regex` refuses a pattern for its size: one that stands in the query, in a call of `match`
-///   or `search`, and whose value at some node of the document is a text that `regex` reads.
+/// - `InvalidJsonPath` where `regex` refuses a pattern for its size: one in the query, in a call of `match` or
+///   `search`, whose value at some node of the document is a text that `regex` reads.
 /// - `OutOfMemory` where memory ran out.
 ///
-/// Under a limit these are [`LimitError::Query`], and [`LimitError::Exhausted`] says that the units were not enough. The query can be
-/// run again after each.
+/// With a limit these are [`LimitError::Query`], and [`LimitError::Exhausted`] means that the units were not enough.
+/// After an error the query can be run again.
 ///
 /// [`Prepared`]: crate::selection::Prepared
-/// [`LimitError::Query`]: crate::selection::Stop::Refused
-/// [`LimitError::Exhausted`]: crate::selection::Stop::Spent
+/// [`LimitError::Query`]: crate::selection::LimitError::Query
+/// [`LimitError::Exhausted`]: crate::selection::LimitError::Exhausted
 #[derive(Drop)]
 pub struct Runner<'p, L: Limit = Unlimited> {
     planned: Planned<'p>,
@@ -51,7 +53,7 @@ pub struct Runner<'p, L: Limit = Unlimited> {
 }
 
 impl<'p> Runner<'p> {
-    /// A runner of this query, with no limit.
+    /// Returns a runner of this query, with no limit.
     pub(crate) fn new(alloc: Global, planned: Planned<'p>) -> Self
         ensures { runner_view result ≡ planned_view planned.entry }
     {
@@ -65,15 +67,15 @@ impl<'p> Runner<'p> {
 }
 
 impl<'p, L: Limit> Runner<'p, L> {
-    /// The query.
+    /// Returns the query.
     pub fn query(&self) -> &JpQuery
         ensures { query_view result.now ≡ runner_view self.now }
     {
         self.planned.query
     }
 
-    /// The runner, with a limit: each of its calls may take so many units of work. What these are spent for stands at
-    /// [`Units`].
+    /// Returns the runner with a limit: each of its calls may take `units` units of work. [`Units`] says what they are
+    /// spent for.
     pub fn limited(self, units: usize) -> Runner<'p, Units>
         ensures { runner_view result ≡ runner_view self.entry }
     {
@@ -84,7 +86,7 @@ impl<'p, L: Limit> Runner<'p, L> {
         }
     }
 
-    /// The nodes that the query selects in a document, in order (RFC 9535, 2.1.2).
+    /// Returns the nodes that the query selects in a document, in order (RFC 9535, 2.1.2).
     pub fn nodes<'a, T: Queryable>(
         &mut self,
         alloc: Global,
@@ -97,7 +99,7 @@ impl<'p, L: Limit> Runner<'p, L> {
         Ok(sink.into_nodes(alloc).list)
     }
 
-    /// The values of these nodes, in order. No path is made.
+    /// Returns the values of these nodes, in order. It makes no paths.
     pub fn values<'a, T: Queryable>(
         &mut self,
         alloc: Global,
@@ -110,7 +112,7 @@ impl<'p, L: Limit> Runner<'p, L> {
         Ok(sink.into_values(alloc).list)
     }
 
-    /// The Normalized Paths of these nodes (RFC 9535, 2.7), in order.
+    /// Returns the Normalized Paths of these nodes (RFC 9535, 2.7), in order.
     pub fn paths<T: Queryable>(
         &mut self,
         alloc: Global,
@@ -122,7 +124,7 @@ impl<'p, L: Limit> Runner<'p, L> {
         Ok(sink.into_paths(alloc))
     }
 
-    /// The locations of these nodes, in order.
+    /// Returns the locations of these nodes, in order.
     pub fn locations<T: Queryable>(
         &mut self,
         alloc: Global,
@@ -135,8 +137,7 @@ impl<'p, L: Limit> Runner<'p, L> {
         Ok(sink.into_locations(alloc))
     }
 
-    /// The first of these nodes, or None where the query selects none. The document is walked no further than to that
-    /// node.
+    /// Returns the first of these nodes, or None where the query selects none. The walk ends at that node.
     pub fn first<'a, T: Queryable>(
         &mut self,
         alloc: Global,
@@ -149,8 +150,7 @@ impl<'p, L: Limit> Runner<'p, L> {
         Ok(only.one())
     }
 
-    /// The only one of these nodes, or that there is none, or several. The document is walked no further than to the
-    /// second node.
+    /// Returns the only node, or that there is none or that there are several. The walk ends at the second node.
     pub fn only<'a, T: Queryable>(
         &mut self,
         alloc: Global,
@@ -162,7 +162,7 @@ impl<'p, L: Limit> Runner<'p, L> {
         Ok(sink.into_nodes(alloc).into_only())
     }
 
-    /// How many these nodes are, up to 2^63 - 1. No path and no list is made.
+    /// Returns the number of these nodes, up to 2^63 - 1. It makes no paths and no list.
     pub fn count<T: Queryable>(
         &mut self,
         alloc: Global,
@@ -174,7 +174,7 @@ impl<'p, L: Limit> Runner<'p, L> {
         Ok(sink.into_count())
     }
 
-    /// Whether the query selects a node. The document is walked no further than to the first, and no path is made.
+    /// Returns whether the query selects a node. The walk ends at the first node, and makes no paths.
     pub fn has_node<T: Queryable>(
         &mut self,
         alloc: Global,
@@ -186,8 +186,8 @@ impl<'p, L: Limit> Runner<'p, L> {
         Ok(sink.into_count() > 0)
     }
 
-    /// The locations of these nodes, in order, to be removed or replaced. Each of them costs `copy` units beside its
-    /// steps.
+    /// Returns the locations of these nodes, sorted, to be removed or replaced. Each of them costs `copy` units beside
+    /// its steps.
     pub(crate) fn marked<T: Queryable>(
         &mut self,
         alloc: Global,
@@ -206,7 +206,7 @@ impl<'p, L: Limit> Runner<'p, L> {
         }
     }
 
-    /// These locations, as they come.
+    /// Returns the set of the locations of these nodes.
     fn removal<T: Queryable>(
         &mut self,
         alloc: Global,
@@ -228,7 +228,7 @@ impl<'p, L: Limit> Runner<'p, L> {
         }
     }
 
-    /// What a copy of a value costs, for each location where it is put.
+    /// Returns what a copy of a value costs, for each location where it is put.
     pub(crate) fn copy_cost<T: Queryable>(
         &self,
         alloc: Global,
@@ -237,13 +237,13 @@ impl<'p, L: Limit> Runner<'p, L> {
         ensures refused { (doc : Document) → IfErr result (IsStopOf L.stops (runner_view self.now) doc) }
     {
         let budget = query_budget(&self.limits, self.planned.query);
-        match budget.limit.copy_cost(alloc, value, budget.left()) {
+        match budget.limit.copy_cost(alloc, value, budget.remaining()) {
             Ok(cost) => Ok(cost),
             Err(_memory) => Err(L::error(alloc, WalkError::Memory)),
         }
     }
 
-    /// The sink, given the nodes.
+    /// Runs the query, and returns the sink with the nodes that it took.
     fn run_into<'a, T: Queryable>(
         &mut self,
         alloc: Global,
@@ -267,7 +267,7 @@ impl<'p, L: Limit> Runner<'p, L> {
         }
     }
 
-    /// Whether the one filter holds that the query is of, at the root of a document.
+    /// Returns whether the filter of a query that is one filter holds at the root of a document.
     pub(crate) fn evaluate_condition<T: Queryable>(
         &mut self,
         alloc: Global,
@@ -289,7 +289,8 @@ impl<'p, L: Limit> Runner<'p, L> {
         }
     }
 
-    /// What is asked of a document, for this work. What asks the patterns is lent, to be put back.
+    /// Returns the request of one call, with this budget. It takes the matchers out of the runner, to be put back after
+    /// the call.
     fn lend(&mut self, alloc: Global, budget: Budget) -> Request<'p, 'p>
         ensures plan { plan_view result.plan.now ≡ runner_view self.old }
         ensures budget { result.budget ≡ budget }
@@ -304,7 +305,7 @@ impl<'p, L: Limit> Runner<'p, L> {
     }
 }
 
-/// `Runner` and its query between parentheses, as that is shown.
+/// Shows `Runner` with its query in parentheses.
 impl<'p, L: Limit> Debug for Runner<'p, L> {
     ghost debug_output = { λ r. Some (codes "Runner(" ++ query_shown (runner_view r) ++ codes ")") };
 
@@ -313,16 +314,7 @@ impl<'p, L: Limit> Debug for Runner<'p, L> {
     }
 }
 
-/// A query, its plan, and where its patterns are built: what a runner is lent.
-#[derive(Drop)]
-pub struct Planned<'p> {
-    pub query: &'p JpQuery,
-    pub plan: &'p Plan,
-    pub cells: &'p PatternSlots,
-    ghost same: { IsPlanOf (query_view query.now) plan.now } by { IsPlanOf-prop (query_view query.now) plan.now },
-}
-
-/// What is asked of a document: a plan, with what asks its patterns, and the work that it may take.
+/// What one call needs: a plan, the matchers of its patterns, and the budget.
 #[derive(Drop)]
 pub struct Request<'s, 'p> {
     pub plan: &'s Plan,
@@ -330,8 +322,8 @@ pub struct Request<'s, 'p> {
     pub budget: Budget,
 }
 
-/// Gives to the sink the nodes of what is asked. The first result says whether to go on; the second asks the patterns
-/// of the plan, and can do so for the next document.
+/// Walks a document, and passes the nodes of the plan to the sink. Returns whether the walk goes on, and the matchers
+/// of the query's patterns, for the next document.
 pub fn run<'a, 'p, T: Queryable>(
     alloc: Global,
     request: Request<'_, 'p>,

@@ -1,4 +1,7 @@
-//! What is done with the nodes that a walk meets.
+//! The sinks of a walk: they take its nodes, and make of them what a caller or a filter needs.
+//!
+//! This file also holds the demand of a filter, which says what it needs of the nodes, and `Only`, which says whether
+//! there is one node.
 ghost use Rattle.jsonpath_base.specs.Prelude.Documents.{Node, location_count, location_set, location_view, of_nodes, paths_of, root_node, shown};
 ghost use Rattle.jsonpath_rust.specs.Prelude.Documents.{Memory, filter_value_tree, tree_of};
 ghost use Rattle.jsonpath_rust.specs.Prelude.Selection.{Fed, FeedsInSync, IsOnlyOf, count_in, counted, demand_of, few, finished, is_counted, location_set_in, locations_in, node_of, nodes_in, paths_in, result_view, seen, seen_few, seen_sole, sole_node, start, told_of, values_in};
@@ -17,7 +20,7 @@ use jsonpath_base::Step;
 use jsonpath_base::engine::{CurrentPath, LocationSet};
 use std::alloc::Global;
 
-/// What is wanted of the nodes of a query inside a filter.
+/// What a filter needs of the nodes of a query.
 #[derive(Clone, Copy, Debug, PartialEq)]
 pub enum Demand {
     /// Whether there is one.
@@ -31,7 +34,8 @@ pub enum Demand {
 }
 
 impl Demand {
-    /// What is wanted of one node, which has this value, or of none, as a value. `Values` is no single value: absent.
+    /// Returns what is demanded of one node, which has this value, or of none. For `Values`, which is no single value,
+    /// that is absent.
     #[inline(always)]
     pub fn of<'a, 's, T: Queryable>(self, value: Option<WholeRef<'a, T>>) -> FilterValue<'a, 's, T>
         ensures { filter_value_tree result ≡ demand_of self (of_nodes (map root_node (option_to_list (option_map tree_of value.entry)))) }
@@ -49,7 +53,7 @@ impl Demand {
         }
     }
 
-    /// Whether a count of the nodes tells it.
+    /// Returns whether the number of nodes is enough for the demand.
     pub fn is_counted(self) -> bool
         ensures { result ≡ is_counted self }
     {
@@ -59,7 +63,7 @@ impl Demand {
         }
     }
 
-    /// What is wanted of so many nodes, as a value: how many they are, or whether there is one.
+    /// Returns what is demanded of `count` nodes: their number, or whether there is one.
     #[inline(always)]
     pub fn of_count<'a, 's, T: Queryable>(self, count: usize) -> FilterValue<'a, 's, T>
         ensures { filter_value_tree result ≡ Some (told_of self count) }
@@ -71,30 +75,30 @@ impl Demand {
     }
 }
 
-/// Takes the nodes of a walk in their order.
+/// Takes the nodes of a walk, in order.
 #[derive(Drop)]
 pub enum Sink<'a, T: Queryable> {
-    /// Keeps each node's value and Normalized Path.
+    /// Collects the value and the Normalized Path of each node.
     Nodes(WholeNodes<'a, T>),
-    /// Keeps each node's Normalized Path.
+    /// Collects the Normalized Path of each node.
     Paths(Vec<QueryPath>),
-    /// Keeps each node's value, and makes no path.
+    /// Collects the value of each node, and makes no path.
     Values(WholeValues<'a, T>),
-    /// Keeps each node's location, with names of its own.
+    /// Collects the location of each node, with names of its own.
     Locations(Vec<Vec<Step>>),
-    /// Marks each node's location to be removed or replaced. The number is what a copy costs that is put there. The
-    /// removal is in a box, so that the other sinks stay small.
+    /// Marks the location of each node, to be removed or replaced. The number is what a copy of the value that is put
+    /// there costs. The set is in a box, so that the other sinks stay small.
     LocationSet(Box<LocationSet>, usize),
-    /// Counts the nodes, and stops at `most`: `room` is how many may still come.
+    /// Counts the nodes, and stops at `most`; `room` more may come.
     Count { room: usize, most: usize },
-    /// The only node. It stops at the second.
+    /// Takes the only node, and stops at the second.
     Single(WholeSingle<'a, T>),
-    /// Keeps the values and Normalized Paths of the first nodes. It stops at the last of these.
+    /// Collects the values and Normalized Paths of the first nodes, and stops at the last of these.
     Few(FirstNodes<'a, T>),
 }
 
 impl<'a, T: Queryable> Sink<'a, T> {
-    /// A sink for what is wanted, with no node yet.
+    /// Returns a sink for a demand, with no node yet.
     #[inline(always)]
     pub fn start(alloc: Global, demand: Demand) -> Self
         ensures { seen result ≡ start demand }
@@ -110,7 +114,7 @@ impl<'a, T: Queryable> Sink<'a, T> {
         }
     }
 
-    /// A sink for the first nodes, so many at most.
+    /// Returns a sink for the first nodes, at most `most`.
     pub fn first(alloc: Global, most: usize) -> Self
         ensures { seen result ≡ few most [] }
     {
@@ -120,7 +124,7 @@ impl<'a, T: Queryable> Sink<'a, T> {
         })
     }
 
-    /// Takes the value that this way leads to. The result says whether the walk goes on.
+    /// Takes the current node, which has this value. Returns whether the walk goes on.
     #[inline(always)]
     pub fn take(
         &mut self,
@@ -160,7 +164,7 @@ impl<'a, T: Queryable> Sink<'a, T> {
         }
     }
 
-    /// Whether the walk may end before its last node.
+    /// Returns whether the walk may end before its last node.
     #[inline(always)]
     pub fn may_end(&self) -> bool {
         match self {
@@ -170,7 +174,7 @@ impl<'a, T: Queryable> Sink<'a, T> {
         }
     }
 
-    /// What was wanted of the nodes that it was given. The sink is freed.
+    /// Returns what was demanded of the nodes that the sink took.
     #[inline(always)]
     pub fn finish<'s>(self, demand: Demand) -> CachedResult<'a, 's, T>
         ensures { result_view result ≡ finished demand (seen self.entry) }
@@ -190,7 +194,7 @@ impl<'a, T: Queryable> Sink<'a, T> {
         }
     }
 
-    /// How many nodes a `Count` was given. The sink is freed.
+    /// Returns how many nodes a `Count` took.
     pub fn into_count(self) -> usize
         ensures { result ≡ count_in (seen self.entry) }
     {
@@ -203,7 +207,7 @@ impl<'a, T: Queryable> Sink<'a, T> {
         }
     }
 
-    /// The nodes that a `Nodes` or a `Few` was given.
+    /// Returns the nodes that a `Nodes` or a `Few` took.
     pub fn into_nodes(self, alloc: Global) -> WholeNodes<'a, T>
         ensures { shown T.tree result.list.items ≡ nodes_in (seen self.entry) }
     {
@@ -217,7 +221,7 @@ impl<'a, T: Queryable> Sink<'a, T> {
         }
     }
 
-    /// The paths that a `Paths` was given.
+    /// Returns the paths of the nodes that a `Paths` took.
     pub fn into_paths(self, alloc: Global) -> Vec<QueryPath>
         ensures { paths_of result.items ≡ paths_in (seen self.entry) }
     {
@@ -230,7 +234,7 @@ impl<'a, T: Queryable> Sink<'a, T> {
         }
     }
 
-    /// The locations that a `Locations` was given.
+    /// Returns the locations of the nodes that a `Locations` took.
     pub fn into_locations(self, alloc: Global) -> Vec<Vec<Step>>
         ensures { map (λ l. location_view l.items) result.items ≡ locations_in (seen self.entry) }
     {
@@ -243,7 +247,7 @@ impl<'a, T: Queryable> Sink<'a, T> {
         }
     }
 
-    /// What a `LocationSet` was given.
+    /// Returns the locations that a `LocationSet` marked.
     pub fn into_removal(self) -> Option<Box<LocationSet>>
         ensures { option_map (λ r. (location_set r.value, location_count r.value)) result ≡ location_set_in (seen self.entry) }
     {
@@ -256,7 +260,7 @@ impl<'a, T: Queryable> Sink<'a, T> {
         }
     }
 
-    /// The values that a `Values` was given.
+    /// Returns the values of the nodes that a `Values` took.
     pub fn into_values(self, alloc: Global) -> WholeValues<'a, T>
         ensures { map (λ v. T.tree v.now) result.list.items ≡ values_in (seen self.entry) }
     {
@@ -270,7 +274,7 @@ impl<'a, T: Queryable> Sink<'a, T> {
     }
 }
 
-/// Counts a node: true, so that the walk goes on, if there is room for another.
+/// Counts a node. Returns whether there is room for another.
 #[inline(always)]
 fn take_count(room: &mut usize) -> bool
     ensures { (n : Node) (most : ℕ) → Fed (counted room.old most) (n ∷ []) (counted room.new most) result }
@@ -279,7 +283,7 @@ fn take_count(room: &mut usize) -> bool
     *room > 0
 }
 
-/// Takes a node: true, so that the walk goes on, if that is the first.
+/// Takes a node. Returns true if it is the first, so that the walk goes on.
 #[inline(always)]
 fn take_sole<'a, T: Queryable>(only: &mut WholeSingle<'a, T>, value: WholeRef<'a, T>) -> bool
     ensures { (n : Node) → n.tree ≡ tree_of value.entry → Fed (seen_sole only.old) (n ∷ []) (seen_sole only.new) result }
@@ -296,16 +300,16 @@ fn take_sole<'a, T: Queryable>(only: &mut WholeSingle<'a, T>, value: WholeRef<'a
     }
 }
 
-/// The first nodes, as many as there is room for.
+/// The first nodes of a walk, as many as there is room for.
 #[derive(Drop)]
 pub struct FirstNodes<'a, T: Queryable> {
     pub nodes: WholeNodes<'a, T>,
-    /// How many more are taken.
+    /// The number of nodes that it still takes.
     pub room: usize,
 }
 
 impl<'a, T: Queryable> FirstNodes<'a, T> {
-    /// Takes a node, where there is room: true, so that the walk goes on, if there is room for another.
+    /// Takes a node if there is room. Returns whether there is room for another.
     fn take(
         &mut self,
         alloc: Global,
@@ -326,10 +330,10 @@ impl<'a, T: Queryable> FirstNodes<'a, T> {
     }
 }
 
-/// What is told of the only node that a query selects, where only one is wanted.
+/// Whether a query selects no node, one node, or several.
 ///
-/// Nodes are counted and not values, so a node that is selected twice counts twice: of `$['a','a']` there are several,
-/// where there is an `a`.
+/// It counts nodes and not values, so a node that is selected twice counts twice: `$['a','a']` selects several nodes if
+/// there is an `a`.
 #[derive(Debug, Drop)]
 pub enum Only<'a, T> {
     /// The query selects nothing.
@@ -341,7 +345,7 @@ pub enum Only<'a, T> {
 }
 
 impl<'a, T: Queryable> Only<'a, T> {
-    /// The node, if there is one alone.
+    /// Returns the node, if it is the only one.
     pub fn one(self) -> Option<QueryRef<'a, T>>
         ensures { result ≡ sole_node self.entry }
     {
@@ -354,7 +358,7 @@ impl<'a, T: Queryable> Only<'a, T> {
 }
 
 impl<'a, T: Queryable> WholeNodes<'a, T> {
-    /// What a caller is told of these nodes, where only one is wanted.
+    /// Returns whether these are no node, one node, or several.
     pub fn into_only(self) -> Only<'a, T>
         ensures complete { IsOnlyOf T.tree (shown T.tree self.entry.list.items) result }
         ensures whole { IfSome (sole_node result) (λ n. IsTrue (T.is_whole n.val.now)) }

@@ -1,9 +1,13 @@
-//! The evaluator: a walk that meets the nodes of a query depth-first, in the order of its nodelist (RFC 9535, 2.1.2).
+//! The walk over a document: it meets the nodes of a query depth-first, in the order of the nodelist (RFC 9535, 2.1.2).
 //!
-//! The way to the value at hand stands on a stack of borrowed steps, so nothing is kept for a node that is only passed.
-//! Most methods of the cycle ask for a value at hand (`IsPositionedAt`), those of constants only that what is kept is right
-//! (`IsCacheCorrect`). Each comes back with the way as it was and what is kept still right (`EndsProperly`). Where it halts, what is
-//! kept is right too, and it says why; the way may then be another.
+//! This file holds the context and the state of a walk, what follows a segment (`Continuation`), what is done at a
+//! value (`Visit`), and the visits to children and descendants.
+//!
+//! The current path is a stack of borrowed steps, so nothing is stored for a node that is only passed. Most methods of
+//! the cycle require that the current path leads to the current node (`IsPositionedAt`). Those of constants require
+//! only that the cache is correct (`IsCacheCorrect`). Each method leaves the current path as it was and the cache
+//! correct (`EndsProperly`). If it ends with an error, the cache is still correct and the error is justified, but the
+//! current path may differ.
 ghost use Rattle.jsonpath_base.specs.Prelude.Documents.{Document, Location, all_pick, below, children, flat_map, lent_location, lent_step, picks, replaced, segment_patterns, segments_patterns, selector_patterns, selectors_patterns, sliced, subtree};
 ghost use Rattle.jsonpath_rust.specs.Prelude.Documents.{tree_of};
 ghost use Rattle.jsonpath_rust.specs.Prelude.Selection.{AreMembers, Constants, EndsProperly, FeedsInSync, GoesToEachChild, IsPositioned, IsPositionedAt, at_current, constants_of, continued_nodes, document, node_at, rest_patterns, segment_view, segments_meant, selected_from, selector_view, selectors_meant, visit_patterns, visited_nodes};
@@ -23,7 +27,7 @@ use std::alloc::Global;
 /// Start, end and step of a slice (RFC 9535, 2.3.4).
 type Bounds = (Option<i64>, Option<i64>, Option<i64>);
 
-/// What is asked: a query by its plan, of a document, and whether the work for it is limited.
+/// What a walk reads and does not change: the plan of the query, the document, and whether the work is limited.
 #[derive(Drop)]
 pub struct WalkContext<'a, 's, T: Queryable> {
     pub alloc: Global,
@@ -32,7 +36,7 @@ pub struct WalkContext<'a, 's, T: Queryable> {
     pub limit: WorkLimit,
 }
 
-/// The way to the value at hand, what the call keeps, what asks its patterns, and the work that is left.
+/// What a walk changes: the current path, the cache of constants, the cache of patterns, and the work that is left.
 #[derive(Drop)]
 pub struct WalkState<'a, 's, 'p, T: Queryable> {
     pub current_path: CurrentPath<'s>,
@@ -42,7 +46,7 @@ pub struct WalkState<'a, 's, 'p, T: Queryable> {
 }
 
 impl<'a, 's, 'p, T: Queryable> WalkState<'a, 's, 'p, T> {
-    /// At the root, with nothing kept.
+    /// Returns the state at the root, with an empty cache of constants.
     pub fn new(alloc: Global, finders: PatternCache<'s, 'p>, budget: Budget) -> Self {
         WalkState {
             current_path: CurrentPath::new(alloc),
@@ -52,32 +56,32 @@ impl<'a, 's, 'p, T: Queryable> WalkState<'a, 's, 'p, T> {
         }
     }
 
-    /// What asks the patterns of the plan. All else is let go.
+    /// Returns the matchers of the query's patterns, and frees the rest.
     pub fn into_finders(self) -> QueryMatchers<'p> {
         let finders = self.finders;
         finders.query
     }
 }
 
-/// What comes next, and the segments behind it, which go on from each node that it makes.
+/// What comes next, and the segments after it, which continue from each node that it selects.
 #[derive(Clone, Copy)]
 pub struct Continuation<'s, N> {
     pub next: N,
     pub rest: &'s [Segment],
 }
 
-/// What is done at a value: at a child, and of `Below` also where the descent begins.
+/// What is done at a value: at a child, and for `Descend` also where the descent begins.
 #[derive(Clone, Copy)]
 pub enum Visit<'s> {
-    /// The rest.
+    /// Continues with the remaining segments.
     Continue,
-    /// The rest, if the filter holds there.
+    /// Continues with the remaining segments if the filter holds at the value.
     Filter(&'s Filter),
-    /// The segment and then the rest, there and at each node below.
+    /// Applies the segment and then the remaining segments, at the value and at each node below it.
     Descend(&'s Segment),
 }
 
-/// Whether the action surely makes no node of the value: a leaf has nothing below.
+/// Returns whether the visit certainly selects no node of the value: a leaf has nothing below it.
 #[inline(always)]
 pub fn is_idle<T: Queryable>(action: Visit<'_>, value: WholeRef<'_, T>) -> bool
     ensures { IsTrue result → (constants : Constants) (d : Document) (l : Location) →
@@ -89,7 +93,7 @@ pub fn is_idle<T: Queryable>(action: Visit<'_>, value: WholeRef<'_, T>) -> bool
     }
 }
 
-/// How many units of work a look at so many children costs: two each for a filter, and else one.
+/// Returns the units that a visit to a number of children costs: two for each child under a filter, else one.
 #[inline(always)]
 pub fn visit_cost(action: Visit<'_>, count: usize) -> usize {
     match action {
@@ -98,8 +102,9 @@ pub fn visit_cost(action: Visit<'_>, count: usize) -> usize {
     }
 }
 
-/// What a look at so many elements costs: what is spent before the first, and what at each. Where the walk may end at
-/// any node each is paid for when it is looked at, for the others may never be.
+/// Returns what visits to a number of elements cost: the units spent before the first, and the units spent at each.
+/// Where the walk may end at any node, each element is paid for when it is visited, because the others may never be
+/// visited.
 #[inline(always)]
 pub fn element_costs<T: Queryable>(
     action: Visit<'_>,
@@ -113,7 +118,7 @@ pub fn element_costs<T: Queryable>(
     }
 }
 
-/// What the segment does at each child, where that is all it does.
+/// Returns the visit that the segment makes at each child, if it does nothing else.
 #[inline(always)]
 pub fn of_each_child(segment: &Segment) -> Option<Visit<'_>>
     ensures { (constants : Constants) → IfSome result (GoesToEachChild constants (segment_view constants segment.now)) }
@@ -129,8 +134,8 @@ pub fn of_each_child(segment: &Segment) -> Option<Visit<'_>>
 }
 
 impl<'a: 's, 's, T: Queryable> WalkContext<'a, 's, T> {
-    /// Gives to the sink what the segments select from a value on, to which the way leads. The result says whether to
-    /// go on. Where no segment is left the value is taken here, with no call for it.
+    /// Passes to the sink the nodes that the segments select from the current node. Returns whether the walk goes on.
+    /// Where no segment is left, the node is passed here, without another call.
     #[cycle(walk)]
     #[inline(always)]
     pub fn walk(
@@ -156,7 +161,7 @@ impl<'a: 's, 's, T: Queryable> WalkContext<'a, 's, T> {
         }
     }
 
-    /// The first segment here, and the rest from each node that it makes of this one.
+    /// Applies the first segment to the current node, and continues from each node that it selects.
     #[cycle(walk)]
     #[tactic(auto, using(crate::proofs::laws::selection::PlanEquations::plan_equations))]
     pub fn pass(
@@ -188,7 +193,7 @@ impl<'a: 's, 's, T: Queryable> WalkContext<'a, 's, T> {
         }
     }
 
-    /// The rest from each child that the selectors pick here, one selector after the other.
+    /// Continues from each child that the selectors pick, one selector after the other.
     #[cycle(walk)]
     fn pick_each(
         &self,
@@ -218,7 +223,7 @@ impl<'a: 's, 's, T: Queryable> WalkContext<'a, 's, T> {
         Ok(true)
     }
 
-    /// The rest from each child that the selector picks here.
+    /// Continues from each child that the selector picks.
     #[cycle(walk)]
     #[tactic(auto, using(crate::proofs::laws::selection::PlanEquations::plan_equations))]
     #[inline(always)]
@@ -269,7 +274,7 @@ impl<'a: 's, 's, T: Queryable> WalkContext<'a, 's, T> {
         }
     }
 
-    /// The rest from each element that a slice of these bounds picks, in its order (RFC 9535, 2.3.4).
+    /// Continues from each element that a slice of these bounds picks, in its order (RFC 9535, 2.3.4).
     #[cycle(walk)]
     fn pick_slice(
         &self,
@@ -307,7 +312,7 @@ impl<'a: 's, 's, T: Queryable> WalkContext<'a, 's, T> {
     }
 }
 
-/// A child of the value at hand, and the step that leads to it.
+/// A child of the current node, and the step that leads to it.
 #[derive(Clone, Copy)]
 pub struct Child<'a, 's, T: Queryable> {
     pub step: StepRef<'s>,
@@ -322,7 +327,7 @@ pub struct Members<'a, 'm, T: Queryable> {
 }
 
 impl<'a: 's, 's, T: Queryable> WalkContext<'a, 's, T> {
-    /// The action at each child, in walk order.
+    /// Visits each child, in walk order.
     #[cycle(walk)]
     pub fn each_child(
         &self,
@@ -360,7 +365,7 @@ impl<'a: 's, 's, T: Queryable> WalkContext<'a, 's, T> {
         Ok(true)
     }
 
-    /// The action at each member, in walk order.
+    /// Visits each member, in walk order.
     #[cycle(walk)]
     fn each_member(
         &self,
@@ -390,7 +395,7 @@ impl<'a: 's, 's, T: Queryable> WalkContext<'a, 's, T> {
         Ok(true)
     }
 
-    /// The action at a child, a step from here.
+    /// Visits a child, one step below the current node.
     #[cycle(walk)]
     #[inline(always)]
     pub fn at_child(
@@ -418,7 +423,7 @@ impl<'a: 's, 's, T: Queryable> WalkContext<'a, 's, T> {
         Ok(goes_on)
     }
 
-    /// Does the action at this value, and gives the rest from each node that it makes of it.
+    /// Visits the current node, and continues from each node that the visit selects.
     #[cycle(walk)]
     #[inline(always)]
     pub fn act(
@@ -438,7 +443,7 @@ impl<'a: 's, 's, T: Queryable> WalkContext<'a, 's, T> {
         match continuation.next {
             Visit::Continue => self.walk(rest, at, state, sink),
             Visit::Filter(filter) => {
-                // The walks of a filter settle no step, and this shows the prover that none is.
+                // The walk of a filter shares no further step. This call shows that to the prover.
                 let shared_len = state.current_path.shared_len;
                 let holds = self.is_met(filter, at, state)?;
                 state.current_path.limit_shared(shared_len);
@@ -452,8 +457,8 @@ impl<'a: 's, 's, T: Queryable> WalkContext<'a, 's, T> {
         }
     }
 
-    /// The segment and then the rest, here and at each node below. Where the segment goes to each child, the members of
-    /// an object are listed once for both.
+    /// Applies the segment and then the remaining segments, to the current node and to each node below it. Where the
+    /// segment goes to each child, the members of an object are listed once for both.
     #[cycle(walk)]
     fn descend(
         &self,

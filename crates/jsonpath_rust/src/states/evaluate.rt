@@ -1,9 +1,8 @@
-//! What the parts of a query return on any state: the evaluator behind [`Query`](crate::states::process::Query). It
-//! goes by recursion over the query and makes each nodelist whole; `walk` is what is quick.
+//! Evaluates the parts of a query on any state, for [`Query`](crate::states::process::Query). It recurses over the
+//! query, and makes each nodelist as a whole; the walk of `selection` is faster.
 //!
-//! A part that reads a state as a whole, as `count` or a comparison does, has a result here on every state, so this
-//! cannot be made of the walk, which knows one node at a time. The recursion, in `segments` and `filters`, stands on
-//! one `Evaluation`.
+//! A part that reads a state as a whole, such as `count` or a comparison, has a result here on every state. The walk,
+//! which knows one node at a time, cannot return that. The recursion is in `segments` and `filters`.
 
 pub mod calls;
 pub mod compare;
@@ -20,10 +19,10 @@ use crate::documents::whole::WholeRef;
 use crate::states::held::WholeData;
 use std::alloc::Global;
 
-/// What a part of a query returns, or why it halts.
+/// What a part of a query returns, or the error with which it ends.
 pub type Returned<'a, T> = WalkResult<WholeData<'a, T>>;
 
-/// What evaluates the parts of a query: the root of the document, and what allocates.
+/// Evaluates the parts of a query. It holds the root of the document, and the allocator.
 #[derive(Drop)]
 pub struct Evaluation<'a, T: Queryable> {
     pub alloc: Global,

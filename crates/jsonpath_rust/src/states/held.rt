@@ -1,4 +1,4 @@
-//! Data, and pointers, whose values are whole. A type says so, so that no part of the evaluator asks for it.
+//! Data and pointers whose values are whole. Their type says so, so no part of the evaluator has to require it.
 ghost use Rattle.std.specs.Prelude.{IsTrue};
 ghost use Rattle.std.proofs.Props.{props};
 ghost use Rattle.jsonpath_base.specs.documents.State.{PointersAreWhole, DataIsWhole};
@@ -24,7 +24,7 @@ pub struct WholePointer<'a, T: Queryable> {
     ghost whole: { IsTrue (T.is_whole pointer.inner.now) },
 }
 
-/// A pointer whose value is whole, lent.
+/// A borrowed pointer whose value is whole.
 pub struct WholePointerRef<'p, 'a, T: Queryable> {
     pub pointer: &'p Pointer<'a, T>,
     ghost whole: { IsTrue (T.is_whole pointer.now.inner.now) },

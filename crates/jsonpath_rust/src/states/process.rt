@@ -1,4 +1,4 @@
-//! What can be asked of a state: each part of a query.
+//! The calls that evaluate each part of a query on a state.
 ghost use Rattle.std.specs.Prelude.{◌≡◌, [], Bool, IfErr, IfOk, IsTrue, List};
 ghost use Rattle.jsonpath_base.specs.Prelude.Documents.{Argument, argument_patterns, argument_view, atom_view, call_patterns, call_view, comparable_view, comparison_view, Document, document_of, filter_patterns, filter_view, literal_tree, literal_view, query_view, segment_patterns, segment_view, segments_patterns, selector_patterns, selector_view, singular_view, step_view, test_patterns, test_view, truth};
 ghost use Rattle.jsonpath_rust.specs.Prelude.Documents.{Memory};
@@ -25,22 +25,21 @@ use jsonpath_parser::model::{
 };
 use std::alloc::Global;
 
-/// What can be asked of a state: a query, and each part of one. It has a result on every state, hand-made ones
-/// included, and on trees that the typing of RFC 9535, 2.4.3 refuses.
+/// A query, or a part of one, that can be evaluated on a state. It has a result on every state, also on one made by
+/// hand, and on trees that are ill-typed (RFC 9535, 2.4.3).
 pub trait Query {
-    /// What it returns, of a document and what a state holds.
+    /// What it returns for a document and the content of a state.
     ghost answers: { Self → Document → Content → Content };
 
-    /// The patterns that stand in it: the second argument of each call of `match`, with true, and of `search`, with
-    /// false.
+    /// The patterns in it: the second argument of each call of `match`, with true, and of `search`, with false.
     ghost patterns: { Self → List (Bool × Argument) };
 
-    /// The result, in the same document.
+    /// Returns the result, in the same document.
     ///
     /// # Errors
     ///
-    /// - `InvalidJsonPath` where `regex` refuses a pattern for its size: one that stands in the query, and that has, at
-    ///   the state or at a value in the document or in the state's nodes, a text that `regex` reads.
+    /// - `InvalidJsonPath` where `regex` refuses a pattern for its size: one in the query that is a text that `regex`
+    ///   reads at the state, or at a value in the document or in the state's nodes.
     /// - `OutOfMemory` where memory ran out.
     fn process<'a, T: Queryable>(&self, alloc: Global, state: State<'a, T>) -> Queried<State<'a, T>>
         requires root { IsTrue (T.is_whole state.root.now) }
@@ -55,10 +54,10 @@ pub trait Query {
             (content_of T.tree state.entry.content)) };
 }
 
-/// The state of the result, or a refusal.
+/// The state of the result, or an error.
 type Answered<'a, T> = Queried<State<'a, T>>;
 
-/// What evaluates at the root of a state, and its data.
+/// Returns what evaluates at the root of a state, and the state's data.
 fn begun<'a, T: Queryable>(
     alloc: Global,
     state: State<'a, T>,
@@ -75,7 +74,7 @@ fn begun<'a, T: Queryable>(
 }
 
 impl<'a, T: Queryable> Evaluation<'a, T> {
-    /// The state of what was returned, or what a caller is told.
+    /// Returns the state of a result, or the error for a caller.
     fn state_of(&self, answer: WalkResult<WholeData<'a, T>>) -> Answered<'a, T>
         ensures content { (c : Content) → IfOk answer.entry (λ d. content_at d ≡ c) → IfOk result (λ s. content_of T.tree s.content ≡ c) }
         ensures root { IfOk result (λ s. s.root.now ≡ self.now.root.value.now) }
@@ -97,7 +96,7 @@ impl<'a, T: Queryable> Evaluation<'a, T> {
     }
 }
 
-/// Its segments, each on the result before.
+/// Applies its segments, each to the result before.
 impl Query for JpQuery {
     ghost answers = { λ q. segments_content (query_view q) };
 
@@ -109,7 +108,7 @@ impl Query for JpQuery {
     }
 }
 
-/// Each on the result before.
+/// Applies each segment to the result before.
 impl Query for Vec<Segment> {
     ghost answers = { λ q. segments_content (segments_view q) };
 
@@ -121,8 +120,8 @@ impl Query for Vec<Segment> {
     }
 }
 
-/// Its selector; its selectors node by node; or, of a descendant segment, the inner one on the lists and objects there
-/// and below.
+/// Applies its selector; or its selectors node by node; or, for a descendant segment, the inner one to the lists and
+/// objects there and below.
 impl Query for Segment {
     ghost answers = { λ q. segment_content (segment_view q) };
 
@@ -134,7 +133,7 @@ impl Query for Segment {
     }
 }
 
-/// What it picks at each node.
+/// Returns what it picks at each node.
 impl Query for Selector {
     ghost answers = { λ q. selector_content (selector_view q) };
 
@@ -146,7 +145,7 @@ impl Query for Selector {
     }
 }
 
-/// The children of each node at which it holds.
+/// Returns the children of each node at which it holds.
 impl Query for Filter {
     ghost answers = { λ q. filter_content (filter_view q) };
 
@@ -158,7 +157,7 @@ impl Query for Filter {
     }
 }
 
-/// Its truth; of a call that returns a truth, without `!`, what the call returns.
+/// Returns whether it holds. For a call that returns a truth, without `!`, it returns what the call returns.
 impl Query for FilterAtom {
     ghost answers = { λ q. basic_content (atom_view q) };
 
@@ -170,7 +169,7 @@ impl Query for FilterAtom {
     }
 }
 
-/// Its truth.
+/// Returns whether it holds.
 impl Query for Comparison {
     ghost answers = { λ q d c. value (truth (holds_at (comparison_view q) d c)) };
 
@@ -182,7 +181,7 @@ impl Query for Comparison {
     }
 }
 
-/// The literal, what the function returns, or the singular query.
+/// Returns the literal, what the function returns, or what the singular query selects.
 impl Query for Comparable {
     ghost answers = { λ q. argument_content (comparable_view q) };
 
@@ -194,7 +193,7 @@ impl Query for Comparable {
     }
 }
 
-/// Its steps, on the state or on the root.
+/// Applies its steps to the state or to the root.
 impl Query for SingularQuery {
     ghost answers = { λ q. test_content (singular_view q) };
 
@@ -206,7 +205,7 @@ impl Query for SingularQuery {
     }
 }
 
-/// The member or the element of each node.
+/// Returns the member or the element of each node.
 impl Query for SingularQuerySegment {
     ghost answers = { λ q. segment_content (step_view q) };
 
@@ -218,7 +217,7 @@ impl Query for SingularQuerySegment {
     }
 }
 
-/// Each on the result before.
+/// Applies each step to the result before.
 impl Query for Vec<SingularQuerySegment> {
     ghost answers = { λ q. segments_content (steps_view q) };
 
@@ -230,7 +229,7 @@ impl Query for Vec<SingularQuerySegment> {
     }
 }
 
-/// The literal, on every state.
+/// Returns the literal, on every state.
 impl Query for Literal {
     ghost answers = { λ q d c. value (literal_tree (literal_view q)) };
 
@@ -242,7 +241,7 @@ impl Query for Literal {
     }
 }
 
-/// The segments on the state, the query on the root, or the function.
+/// Applies the segments to the state, or the query to the root, or calls the function.
 impl Query for Test {
     ghost answers = { λ q. test_content (test_view q) };
 
@@ -254,7 +253,7 @@ impl Query for Test {
     }
 }
 
-/// What the function returns of its arguments at the state.
+/// Returns what the function returns for its arguments at the state.
 impl Query for TestFunction {
     ghost answers = { λ q. call_content (call_view q) };
 
@@ -266,7 +265,7 @@ impl Query for TestFunction {
     }
 }
 
-/// The literal, the test, or the truth of the filter at the state.
+/// Returns the literal, the result of the test, or whether the filter holds at the state.
 impl Query for FnArg {
     ghost answers = { λ q. argument_content (argument_view q) };
 
@@ -278,7 +277,7 @@ impl Query for FnArg {
     }
 }
 
-/// What the function returns, as [`Query::process`] of it.
+/// Returns what the function returns, as [`Query::process`] of it.
 pub fn apply<'a, T: Queryable>(
     alloc: Global,
     function: &TestFunction,

@@ -1,4 +1,4 @@
-//! The nodes that [`Query::process`] returns from the root, as a caller of `js_path_process` wants them.
+//! The nodes that [`Query::process`] returns from the root, in the form that a caller of `js_path_process` needs.
 ghost use Rattle.std.specs.Prelude.{◌≡◌, All, IfErr, IfOk, IsTrue, map};
 ghost use Rattle.jsonpath_base.specs.Prelude.Documents.{document_of, query_view, segments_patterns, shown};
 ghost use Rattle.jsonpath_rust.specs.Prelude.States.{IsProcessStop, PointersAreWhole, processed, root_content, segments_content, targets, targets_of};
@@ -10,7 +10,7 @@ use crate::states::state::{Data, Pointer, State};
 use jsonpath_parser::model::JpQuery;
 use std::alloc::Global;
 
-/// The nodes, with their values and the texts of their paths. It refuses as [`Query::process`] does.
+/// Returns the nodes, with their values and the texts of their paths. It fails as [`Query::process`] does.
 pub fn processed_nodes<'a, T: Queryable>(
     alloc: Global,
     query: &JpQuery,
@@ -31,7 +31,7 @@ pub fn processed_nodes<'a, T: Queryable>(
     Ok(nodes)
 }
 
-/// Their values. It refuses as [`Query::process`] does.
+/// Returns the values of the nodes. It fails as [`Query::process`] does.
 pub fn processed_values<'a, T: Queryable>(
     alloc: Global,
     query: &JpQuery,
@@ -54,7 +54,7 @@ pub fn processed_values<'a, T: Queryable>(
     Ok(values)
 }
 
-/// The nodes, as they stand in the state that is returned.
+/// Returns the nodes, as they are in the state that is returned.
 fn pointers_from_root<'a, T: Queryable>(
     alloc: Global,
     query: &JpQuery,

@@ -1,4 +1,4 @@
-//! What one name or one index finds from a pointer (RFC 9535, 2.3.1 and 2.3.3).
+//! The member or element that one name or one index selects from a pointer (RFC 9535, 2.3.1 and 2.3.3).
 ghost use Rattle.std.specs.Prelude.{◌≡◌, IfErr, IfOk, IsTrue};
 ghost use Rattle.jsonpath_base.specs.Prelude.Documents.{OutOfMemory};
 ghost use Rattle.jsonpath_rust.specs.Prelude.States.{content_of, DataIsWhole, indexed_from, named_from, target_of};
@@ -9,8 +9,8 @@ use crate::states::held::WholePointerRef;
 use crate::states::state::{Data, Pointer};
 use std::alloc::Global;
 
-/// The member of that name, under the pointer's path and one step more; nothing where there is none. It refuses by
-/// `OutOfMemory` alone.
+/// Returns the member of that name, at the pointer's path and one more step; nothing where there is none. It fails with
+/// `OutOfMemory` only.
 pub fn process_key<'a, T: Queryable>(
     alloc: Global,
     pointer: Pointer<'a, T>,
@@ -25,8 +25,8 @@ pub fn process_key<'a, T: Queryable>(
     Ok(from.named(alloc, key)?.content)
 }
 
-/// The element that the index means, from the end where it is negative, under the pointer's path and one step more;
-/// nothing where there is none. It refuses by `OutOfMemory` alone.
+/// Returns the element that the index means, from the end where it is negative, at the pointer's path and one more
+/// step; nothing where there is none. It fails with `OutOfMemory` only.
 pub fn process_index<'a, T: Queryable>(
     alloc: Global,
     pointer: Pointer<'a, T>,

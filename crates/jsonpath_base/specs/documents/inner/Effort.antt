@@ -1,4 +1,5 @@
--- How much work a part of a query is in a document of size r, for the measures of the two evaluators: what is worked out at the root counts the root. The plain evaluator counts no document, so r is 0.
+-- The effort of a part of a query in a document of size r, for the measures of the two evaluators: what is evaluated at the root counts the root. The
+-- evaluator of states counts no document, so r is 0.
 use Rattle.std.specs.Prelude.{ℕ, ◌+◌, ◌*◌}
 use Rattle.jsonpath_parser.specs.tree.Syntax as syntax
 use Rattle.jsonpath_parser.specs.tree.Syntax.{Selector, Selectors, no_selectors, selector, Segment, one, several, descendant, Segments, no_segments, segment, Filter, or, and, Filters, no_filters, filter_then, group, test, compare, Test, relative, absolute, call, Call, custom_call, length_call, value_call, count_call, search_call, match_call, Argument, literal_argument, test_argument, filter_argument, Arguments, no_arguments, argument}

@@ -12,7 +12,7 @@ use Rattle.jsonpath_base.specs.documents.Meaning.{element_of}
 use Rattle.jsonpath_base.specs.declared.documents.reference.Reached.{Reached}
 use Rattle.jsonpath_base.specs.declared.documents.reference.Referent.{Referent}
 
--- the step to a child, and the child, where there is one
+-- the step to a child, and the child, if there is one
 abbrev pub step_to : Step → Tree → Option (Step × Tree)
 step_to s t = option_map (λ u. (s, u)) (child s t)
 
@@ -33,7 +33,7 @@ abbrev pub followed : Segments → Location → Tree → Option (Location × Tre
 followed no_segments l t = Some (l, t)
 followed (segment g gs) l t = option_and_then (λ p. followed gs (l ++ p.0 ∷ []) p.1) (segment_child g t)
 
--- what the code answers, seen so
+-- what the code returns, as a step and a tree
 abbrev pub reached_view : Reached → Step × Tree
 reached_view c = (owned_step c.step, value_tree c.value.now)
 

@@ -1,4 +1,4 @@
--- Lists of the code's parts of a query, without where they lie in memory, for the contracts of what goes through them alone.
+-- Lists of the code's parts of a query, without their places in memory, for the contracts of what iterates over them alone.
 use Rattle.std.specs.Prelude.{List, map}
 use Rattle.jsonpath_parser.specs.tree.Syntax as syntax
 use Rattle.jsonpath_parser.specs.tree.Syntax.{Segments}

@@ -1,5 +1,4 @@
--- The value to which names and indexes lead, for the contracts of what looks it up alone: the definitions here are no part of what a query
--- means.
+-- The value to which names and indexes lead, for the contracts of look-ups alone: the definitions here are no part of what a query means.
 use Rattle.std.specs.Prelude.{List, [], ◌∷◌, length, Option, Some, None, option_and_then}
 use Rattle.jsonpath_parser.specs.Location as location
 use Rattle.jsonpath_parser.specs.tree.Syntax as syntax
@@ -22,6 +21,6 @@ abbrev pub value_at : List Segment → Tree → Option Tree
 value_at [] t = Some t
 value_at (s ∷ ss) t = option_and_then (value_at ss) (stepped s t)
 
--- the value of a side of a comparison, where it has one
+-- the value of a side of a comparison, if it has one
 abbrev pub value_of : Argument → Document → Node → Option Tree
 value_of x d n = as_value (argued x d n)

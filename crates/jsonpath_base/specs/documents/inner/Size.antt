@@ -1,4 +1,4 @@
--- How large a tree is, for the measures of the walk alone: the definitions here are no part of what a query means.
+-- The size of a tree, for the measures of the walk alone: the definitions here are no part of what a query means.
 use Rattle.std.specs.Prelude.{ℕ, ◌+◌}
 use Rattle.jsonpath_base.specs.Tree.{Tree, list, object, Trees, no_trees, tree, Members, no_members, member}
 

@@ -12,16 +12,16 @@ use Rattle.jsonpath_base.specs.Values.{value_tree}
 use Rattle.jsonpath_base.specs.declared.step.Step.{Step}
 use Rattle.jsonpath_base.specs.documents.Referring.{put_there}
 
--- the location that is meant, if the answer has one
+-- the location that is meant, if the result has one
 abbrev pub place_in : Result (Option (Vec Step Global)) JsonPathError → Option Location
 place_in (Ok o) = option_map (λ v. location_view v.items) o
 place_in (Err e) = None
 
--- s ends with what is behind r at the end in the place of what stood at the location, and as it was at `None`
+-- s ends with what r points to at the end in the place of what was at the location, and as it was for `None`
 abbrev pub LendsThere : Option Location → MutBor Value → Option (MutBor Value) → Fml
 LendsThere o s r = LendsSo the_row the_row s r (λ n w. OnSome r (value_tree n ≡ put_there o (value_tree w) (value_tree s.now))) (λ n. n ≡ s.now)
 
--- what is lent, or the refusal
+-- the borrowed value, or the error
 abbrev pub answer_of : Result (Option (Vec Step Global)) JsonPathError → Option (MutBor Value) → Result (Option (MutBor Value)) JsonPathError
 answer_of (Ok o) lent = Ok lent
 answer_of (Err e) lent = Err e

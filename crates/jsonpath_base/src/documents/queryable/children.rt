@@ -1,4 +1,4 @@
-//! What a walk asks of the children of a value.
+//! The children of a value that a walk needs.
 ghost use Rattle.std.specs.Prelude.{◌<◌, ◌≡◌, IfSome, IsTrue, map, None, option_to_list};
 ghost use Rattle.jsonpath_base.specs.Prelude.Documents.{as_list, as_members, below, indexed, Location, size};
 ghost use Rattle.jsonpath_parser.specs.Location as location;
@@ -6,7 +6,7 @@ ghost use Rattle.jsonpath_base.specs.documents.Meaning as meaning;
 
 use crate::documents::queryable::Queryable;
 
-/// Whether the value is a text or a number, which has no children.
+/// Returns whether the value is a text or a number, which has no children.
 #[inline(always)]
 pub fn is_leaf<T: Queryable>(at: &T) -> bool
     requires { IsTrue (T.is_whole at.now) }
@@ -16,7 +16,7 @@ pub fn is_leaf<T: Queryable>(at: &T) -> bool
     at.as_str().is_some() || at.as_i64().is_some()
 }
 
-/// The element that an index means in a list, with its position, counted from 0 (RFC 9535, 2.3.3).
+/// Returns the element that an index means in a list, with its position, counted from 0 (RFC 9535, 2.3.3).
 #[inline(always)]
 pub fn element<T: Queryable>(at: &T, index: i64) -> Option<(usize, &T)>
     requires { IsTrue (T.is_whole at.now) }
@@ -31,8 +31,7 @@ pub fn element<T: Queryable>(at: &T, index: i64) -> Option<(usize, &T)>
     Some((position, child))
 }
 
-/// The position from 0 that an index means in a list of this length: a negative one counts from the
-/// end.
+/// Returns the position from 0 that an index means in a list of this length. A negative index counts from the end.
 #[inline(always)]
 pub fn element_of(index: i64, length: usize) -> Option<usize>
     ensures { result ≡ meaning.element_of index length }

@@ -14,8 +14,8 @@ use crate::documents::reference::referred;
 use serde_json::{Map, Value};
 use std::alloc::{AllocError, Global};
 
-/// Up to how many members are gone through for a name, which takes less time in few than to compare
-/// by order.
+/// The number of members up to which a name is looked for one by one. For so few, that takes less time than a search by
+/// order.
 const FEW_MEMBERS: usize = 11;
 
 impl Queryable for Value {
@@ -40,7 +40,7 @@ impl Queryable for Value {
         self.as_array()
     }
 
-    /// The members in the order of their names' bytes.
+    /// Returns the members in the order of their names' bytes.
     fn as_object(&self, alloc: Global) -> Queried<Option<Vec<(&str, &Value)>>>
         ensures value { IsTrue (value_is_whole self.now) →
             IfOk result (λ o. option_map (λ v. map (λ m. (m.0.now, value_tree m.1.now)) v.items) o
@@ -115,8 +115,8 @@ impl Queryable for Value {
         crate::same(self, other)
     }
 
-    /// The five set functions: `in`, `nin`, `none_of`, `any_of`, `subset_of`. Any other name, and
-    /// another number or kind of arguments, gives null.
+    /// Evaluates the five set functions: `in`, `nin`, `none_of`, `any_of`, `subset_of`. Returns null for any other
+    /// name, and for another number or kind of arguments.
     fn extension_custom(_alloc: Global, name: &str, args: &[Arg<'_, Value>]) -> Queried<Value> {
         match args {
             [left, right] => match crate::set_function(name, left.get(), right.get()) {
@@ -127,13 +127,13 @@ impl Queryable for Value {
         }
     }
 
-    /// The value at the one location that a path of names and indexes means, such as a Normalized
-    /// Path. Each other text gives None, and so does one that is no query. The steps are followed
-    /// down; the value is not walked.
+    /// Returns the value at the one location that a path of names and indexes means, such as a Normalized Path. Returns
+    /// None for any other text, and for one that is not a query. It follows the steps down, and does not walk the
+    /// value.
     fn reference(&self, alloc: Global, path: &str) -> Queried<Option<&Value>>
         ensures value { IfOk result (λ o. IsReferred path.now (value_document self.now) (option_map (λ v. value_tree v.now) o)) }
 
-        // A Normalized Path leads to its own location, if something is there.
+        // A Normalized Path leads to its own location, if there is a value.
         ensures normal { (l : Location) → IsNormal l path.now → HasIndexesInRange l →
             IfOk result (λ o. option_map (λ v. value_tree v.now) o ≡ at l (value_tree self.now)) }
         ensures whole { IsTrue (value_is_whole self.now) → IfOk result (λ o. IfSome o (λ v. IsTrue (value_is_whole v.now))) }
@@ -142,14 +142,13 @@ impl Queryable for Value {
         referred(alloc, self, path)
     }
 
-    /// The value at the one location that a path of names and indexes means, which `reference`
-    /// returns, lent for writing. When the loan ends, what was written stands there, and nothing
-    /// else has changed. None and a refusal leave the value as it was.
+    /// Borrows the value that `reference` returns for writing. When the borrow ends, what was written is there, and
+    /// nothing else has changed. None and an error leave the value as it was.
     fn reference_mut(&mut self, alloc: Global, path: &str) -> Queried<Option<&mut Value>>
         ensures* writes_back { sem 𝓛 (LendsReferred path.now self.entry (lent_in result)) }
         ensures value { IfOk result (λ o. IsReferred path.now (value_document self.old) (option_map (λ v. value_tree v.now) o)) }
 
-        // A Normalized Path leads to its own location, if something is there.
+        // A Normalized Path leads to its own location, if there is a value.
         ensures normal { (l : Location) → IsNormal l path.now → HasIndexesInRange l →
             IfOk result (λ o. option_map (λ v. value_tree v.now) o ≡ at l (value_tree self.old)) }
         ensures whole { IsTrue (value_is_whole self.old) → IfOk result (λ o. IfSome o (λ v. IsTrue (value_is_whole v.now))) }
@@ -161,7 +160,7 @@ impl Queryable for Value {
     ghost distinct = { λ x h. (and_parts (has_whole_numbers (view x)) (has_distinct_names (value_tree x)) h).1 };
 }
 
-/// The member of that name.
+/// Returns the member of that name.
 fn found_among<'a>(members: &'a Map<String, Value>, key: &str) -> Option<&'a Value>
     ensures value { option_map (λ v. value_tree v.now) result ≡ find key.now (pairs (members_of (members_view members.now.entries))) }
     ensures whole { AllByRecursion (λ e. IsTrue (value_is_whole e.1)) members.now.entries →

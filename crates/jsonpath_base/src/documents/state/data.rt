@@ -1,4 +1,4 @@
-//! What a state holds.
+//! The data of a state.
 ghost use Rattle.std.specs.Prelude.{◌++◌, ◌∷◌, ◌≡◌, ◌⊎◌, [], Err, IfErr, IfOk, IsTrue, Ok, OnOk, option_map};
 ghost use Rattle.jsonpath_base.specs.Prelude.Documents.{AllByRecursion, OutOfMemory};
 ghost use Rattle.jsonpath_base.specs.Prelude.States.{content_of, contents_same, DataIsWhole, GivesWhole, Made, nothing, ok_refs, ok_value, pointers, PointersAreWhole, reduced, ref, refs, SomeHas, target_of, targets_of, targets_same};
@@ -9,20 +9,20 @@ use crate::documents::state::pointer::Pointer;
 use std::alloc::Global;
 use std::fmt::{self, Debug, Display, Formatter, Write};
 
-/// What a state holds.
+/// The data of a state.
 #[derive(Debug, Drop)]
 pub enum Data<'a, T> {
     /// One node.
     Ref(Pointer<'a, T>),
-    /// Nodes, in order, perhaps none.
+    /// Nodes, in order; there may be none.
     Refs(Vec<Pointer<'a, T>>),
-    /// A value of its own, as a literal or a function returns.
+    /// An owned value, as a literal or a function returns.
     Value(T),
     Nothing,
 }
 
 impl<'a, T: Queryable> Data<'a, T> {
-    /// One node.
+    /// Returns the data of one node.
     pub fn new_ref(pointer: Pointer<'a, T>) -> Self
         ensures content { content_of T.tree result ≡ ref (target_of T.tree pointer.entry) }
         ensures whole { IsTrue (T.is_whole pointer.entry.inner.now) → DataIsWhole T.is_whole result }
@@ -30,7 +30,7 @@ impl<'a, T: Queryable> Data<'a, T> {
         Data::Ref(pointer)
     }
 
-    /// Nodes, in this order.
+    /// Returns the data of these nodes, in this order.
     pub fn new_refs(pointers: Vec<Pointer<'a, T>>) -> Self
         ensures content { content_of T.tree result ≡ refs (targets_of T.tree pointers.entry.items) }
         ensures whole { PointersAreWhole T.is_whole pointers.entry.items → DataIsWhole T.is_whole result }
@@ -38,8 +38,8 @@ impl<'a, T: Queryable> Data<'a, T> {
         Data::Refs(pointers)
     }
 
-    /// The nodes of both, this one's first, where both have nodes; the one that has nodes, where
-    /// the other is nothing; and else nothing. It refuses by `OutOfMemory` alone.
+    /// Joins two data. If both have nodes, it returns the nodes of both, these first. If one has nodes and the other is
+    /// nothing, it returns those nodes. Else it returns nothing. It fails with `OutOfMemory` only.
     pub fn reduce(self, alloc: Global, other: Data<'a, T>) -> Queried<Data<'a, T>>
         ensures value { IfOk result (λ d. content_of T.tree d ≡ reduced (content_of T.tree self.entry) (content_of T.tree other.entry)) }
         ensures whole { DataIsWhole T.is_whole self.entry → DataIsWhole T.is_whole other.entry →
@@ -65,7 +65,7 @@ impl<'a, T: Queryable> Data<'a, T> {
         }
     }
 
-    /// The nodes as a list, where it is a node or nodes. It refuses by `OutOfMemory` alone.
+    /// Returns the nodes as a list, if it is a node or nodes. It fails with `OutOfMemory` only.
     pub fn ok_ref(self, alloc: Global) -> Queried<Option<Vec<Pointer<'a, T>>>>
         ensures value { IfOk result (λ o. option_map (λ v. v.items) o ≡ ok_refs self.entry) }
         ensures memory { IfErr result (λ e. e ≡ OutOfMemory) }
@@ -82,7 +82,7 @@ impl<'a, T: Queryable> Data<'a, T> {
         }
     }
 
-    /// The value of its own, where it has one. It takes no memory.
+    /// Returns the owned value, if it has one. It takes no memory.
     pub fn ok_val(self) -> Option<T>
         ensures { result ≡ ok_value self.entry }
     {
@@ -94,9 +94,9 @@ impl<'a, T: Queryable> Data<'a, T> {
         }
     }
 
-    /// What the closure returns at the node; of several nodes, the nodes of what it returns at
-    /// each, in order; and else nothing. A refusal of the closure is returned as it is; its own are
-    /// `OutOfMemory` alone.
+    /// Returns what the closure returns for the node. For several nodes it returns the nodes of what the closure
+    /// returns for each, in order. Else it returns nothing. It returns an error of the closure as it is; its own errors
+    /// are `OutOfMemory` only.
     pub fn flat_map<F: Fn(Pointer<'a, T>) -> Queried<Data<'a, T>> + Drop>(
         self,
         alloc: Global,
@@ -105,7 +105,7 @@ impl<'a, T: Queryable> Data<'a, T> {
         requires { AllByRecursion (F.pre f) (pointers self) }
         ensures made { IfOk result (λ d. Made (λ p r. F.post f p (Ok r)) self.entry d) }
 
-        // What is made of whole values is whole, where what the closure makes of them is.
+        // From whole values it makes whole ones, if the closure does.
         ensures whole { GivesWhole T.is_whole (λ p r. F.post f p (Ok r)) →
             DataIsWhole T.is_whole self.entry → IfOk result (λ d. DataIsWhole T.is_whole d) }
         ensures refused { IfErr result (λ e. (e ≡ OutOfMemory) ⊎ SomeHas (λ p. F.post f p (Err e)) (pointers self.entry)) }
@@ -125,8 +125,8 @@ impl<'a, T: Queryable> Data<'a, T> {
         }
     }
 
-    /// Whether they are of one kind, with values that are the same ([`Queryable::equal`]) and paths
-    /// of the same text, in the same order. It takes no memory of its own.
+    /// Returns whether both are of one kind, with values that are the same ([`Queryable::equal`]) and paths of the same
+    /// text, in the same order. It takes no memory of its own.
     pub fn equal(&self, other: &Self) -> bool
         requires left { DataIsWhole T.is_whole self.now }
         requires right { DataIsWhole T.is_whole other.now }
@@ -152,8 +152,8 @@ impl<'a, T: Queryable> Data<'a, T> {
         }
     }
 
-    /// The same nodes, borrowed once more, with copies of their paths, or a copy of the value. It
-    /// refuses by `OutOfMemory` alone.
+    /// Returns the same nodes, borrowed, with copies of their paths, or a copy of the value. It fails with
+    /// `OutOfMemory` only.
     pub fn try_clone(&self, alloc: Global) -> Queried<Self>
         ensures value { DataIsWhole T.is_whole self.now → IfOk result (λ d. content_of T.tree d ≡ content_of T.tree self.now) }
         ensures whole { DataIsWhole T.is_whole self.now → IfOk result (λ d. DataIsWhole T.is_whole d) }
@@ -168,7 +168,7 @@ impl<'a, T: Queryable> Data<'a, T> {
     }
 }
 
-/// Nothing.
+/// Returns nothing.
 impl<'a, T: Queryable> Default for Data<'a, T> {
     fn default() -> Self
         ensures { content_of T.tree result ≡ nothing }
@@ -177,7 +177,7 @@ impl<'a, T: Queryable> Default for Data<'a, T> {
     }
 }
 
-/// `&` and the node; the nodes, joined by `; `; the `Debug` text of the value; or `Nothing`.
+/// Shows a node as `&` and the node, nodes joined by `; `, a value by its `Debug` text, and nothing as `Nothing`.
 impl<'a, T: Debug> Display for Data<'a, T> {
     fn fmt<W: Write>(&self, f: &mut Formatter<W>) -> fmt::Result {
         match self {
@@ -214,7 +214,7 @@ fn push_nodes<'a, T: Queryable>(all: &mut Vec<Pointer<'a, T>>, found: Data<'a, T
     }
 }
 
-/// A list of one node.
+/// Returns a list of one node.
 fn one_pointer<'a, T: Queryable>(
     alloc: Global,
     pointer: Pointer<'a, T>,
@@ -228,7 +228,7 @@ fn one_pointer<'a, T: Queryable>(
     Ok(all)
 }
 
-/// These nodes, and the other's behind them, where it has nodes or is nothing; and else nothing.
+/// Returns these nodes, and after them those of the other if it has nodes or is nothing; else nothing.
 fn behind<'a, T: Queryable>(nodes: Vec<Pointer<'a, T>>, other: Data<'a, T>) -> Queried<Data<'a, T>>
     ensures value { IfOk result (λ d. content_of T.tree d
         ≡ reduced (refs (targets_of T.tree nodes.entry.items)) (content_of T.tree other.entry)) }
@@ -251,7 +251,7 @@ fn behind<'a, T: Queryable>(nodes: Vec<Pointer<'a, T>>, other: Data<'a, T>) -> Q
     }
 }
 
-/// Copies of the pointers.
+/// Returns copies of the pointers.
 fn copied<'a, T: Queryable>(
     alloc: Global,
     pointers: &[Pointer<'a, T>],
@@ -267,7 +267,7 @@ fn copied<'a, T: Queryable>(
     Ok(all)
 }
 
-/// Whether they are equal, one by one.
+/// Returns whether the pointers are equal, one by one.
 pub fn are_same<'a, T: Queryable>(left: &[Pointer<'a, T>], right: &[Pointer<'a, T>]) -> bool
     requires left { PointersAreWhole T.is_whole left.now }
     requires right { PointersAreWhole T.is_whole right.now }

@@ -1,4 +1,4 @@
-//! A value that is lent, with the text of a path.
+//! A borrowed value, with the text of a path.
 ghost use Rattle.std.specs.Prelude.{◌++◌, ◌↔◌, ◌≡◌, [], IfErr, IfOk, IsTrue, string_bytes};
 ghost use Rattle.jsonpath_base.specs.Prelude.Documents.{index, name, OutOfMemory, step_text};
 ghost use Rattle.jsonpath_base.specs.Prelude.States.{contents_same, ref, target_of};
@@ -9,8 +9,8 @@ use crate::{add_index, add_name};
 use std::alloc::Global;
 use std::fmt::{self, Debug, Display, Formatter, Write};
 
-/// A value in a document, and the text of its path. From [`State::root`](super::State::root) on it
-/// is the Normalized Path; a hand-made one may have any text.
+/// A value in a document, and the text of its path. From [`State::root`](super::State::root) on it is the Normalized
+/// Path; a pointer made by hand may have any text.
 #[derive(Debug, Drop)]
 pub struct Pointer<'a, T> {
     pub inner: &'a T,
@@ -18,7 +18,7 @@ pub struct Pointer<'a, T> {
 }
 
 impl<'a, T: Queryable> Pointer<'a, T> {
-    /// The value, at that path.
+    /// Returns the pointer to a value at that path.
     pub fn new(inner: &'a T, path: QueryPath) -> Self
         ensures inner { result.inner.now ≡ inner.now }
         ensures path { result.path ≡ path }
@@ -26,8 +26,8 @@ impl<'a, T: Queryable> Pointer<'a, T> {
         Pointer { inner, path }
     }
 
-    /// The value, at the path and one step to a member behind it (RFC 9535, 2.7). It refuses by
-    /// `OutOfMemory` alone.
+    /// Returns the pointer to a value at the path and a step to a member after it (RFC 9535, 2.7). It fails with
+    /// `OutOfMemory` only.
     pub fn key(alloc: Global, inner: &'a T, mut path: QueryPath, key: &str) -> Queried<Self>
         ensures inner { IfOk result (λ p. p.inner.now ≡ inner.now) }
         ensures path { IfOk result (λ p. string_bytes p.path ≡ string_bytes path ++ step_text (name key.now)) }
@@ -37,8 +37,8 @@ impl<'a, T: Queryable> Pointer<'a, T> {
         Ok(Pointer { inner, path })
     }
 
-    /// The value, at the path and one step to an element behind it (RFC 9535, 2.7). It refuses by
-    /// `OutOfMemory` alone.
+    /// Returns the pointer to a value at the path and a step to an element after it (RFC 9535, 2.7). It fails with
+    /// `OutOfMemory` only.
     pub fn idx(alloc: Global, inner: &'a T, mut path: QueryPath, position: usize) -> Queried<Self>
         ensures inner { IfOk result (λ p. p.inner.now ≡ inner.now) }
         ensures path { IfOk result (λ p. string_bytes p.path ≡ string_bytes path ++ step_text (index position)) }
@@ -48,7 +48,7 @@ impl<'a, T: Queryable> Pointer<'a, T> {
         Ok(Pointer { inner, path })
     }
 
-    /// The value by itself, with the empty path. It takes no memory.
+    /// Returns the pointer to a value with the empty path. It takes no memory.
     pub fn empty(alloc: Global, inner: &'a T) -> Self
         ensures inner { result.inner.now ≡ inner.now }
         ensures path { string_bytes result.path ≡ [] }
@@ -60,15 +60,14 @@ impl<'a, T: Queryable> Pointer<'a, T> {
         }
     }
 
-    /// Whether the path is empty.
+    /// Returns whether the path is empty.
     pub fn is_internal(&self) -> bool
         ensures { IsTrue result ↔ (string_bytes self.now.path ≡ []) }
     {
         self.path.is_empty()
     }
 
-    /// The same value, borrowed once more, and a copy of its path. It refuses by `OutOfMemory`
-    /// alone.
+    /// Returns the pointer to the same value, with a copy of its path. It fails with `OutOfMemory` only.
     pub fn try_clone(&self, alloc: Global) -> Queried<Self>
         ensures inner { IfOk result (λ p. p.inner.now ≡ self.now.inner.now) }
         ensures path { IfOk result (λ p. string_bytes p.path ≡ string_bytes self.now.path) }
@@ -81,8 +80,8 @@ impl<'a, T: Queryable> Pointer<'a, T> {
         })
     }
 
-    /// Whether the values are the same ([`Queryable::equal`]) and the paths have the same text. It
-    /// takes no memory of its own.
+    /// Returns whether the values are the same ([`Queryable::equal`]) and the paths have the same text. It takes no
+    /// memory of its own.
     pub fn equal(&self, other: &Self) -> bool
         requires left { IsTrue (T.is_whole self.now.inner.now) }
         requires right { IsTrue (T.is_whole other.now.inner.now) }
@@ -92,14 +91,14 @@ impl<'a, T: Queryable> Pointer<'a, T> {
     }
 }
 
-/// The `Debug` text of the value, `='`, the path, `'`.
+/// Shows the `Debug` text of the value, `='`, the path, and `'`.
 impl<'a, T: Debug> Display for Pointer<'a, T> {
     fn fmt<W: Write>(&self, f: &mut Formatter<W>) -> fmt::Result {
         write!(f, "{:?}='{}'", self.inner, self.path)
     }
 }
 
-/// The value and the path of a pointer, whatever text that is.
+/// Makes a node of the value and the path of a pointer, whatever text that is.
 impl<'a, T: Queryable> From<Pointer<'a, T>> for QueryRef<'a, T> {
     ghost from_gives = { λ pointer r. (r.val ≡ pointer.inner) × (r.path ≡ pointer.path) };
 

@@ -1,25 +1,26 @@
-//! The literals that `regex` copies before it builds a pattern: those that a choice is written out as, and those of runs. It looks
-//! for runs from so many parts on, each as far as it has no more literals than this.
+//! Counts the literals that `regex` copies before it builds a pattern: those that a choice is written out as, and those
+//! of runs. It looks for runs from at most `MOST_RUNS` parts on, and follows each while it has fewer than `MOST_IN_RUN`
+//! literals.
 use crate::pattern::weight::piece::Piece;
 
 const MOST_RUNS: usize = 256;
 
 const MOST_IN_RUN: usize = 250;
 
-/// How many literals are copied for what was read of a pattern.
+/// The number of literals that are copied for what was read of a pattern.
 #[derive(Clone, Copy)]
 pub struct Literals {
-    /// To write it out, if it is a choice among literals.
+    /// Those to write it out, if it is a choice among literals.
     written: usize,
-    /// For runs.
+    /// Those for runs.
     found: usize,
-    /// How many runs begin before the next atom, and the literals of one that goes on to it.
+    /// The number of runs that begin before the next atom, and the literals of one that continues to it.
     runs: usize,
     in_run: usize,
 }
 
 impl Literals {
-    /// Of an empty pattern.
+    /// Returns the count for an empty pattern.
     pub fn new() -> Self {
         Literals {
             written: 0,
@@ -29,7 +30,7 @@ impl Literals {
         }
     }
 
-    /// How many there are, for a pattern that is this part.
+    /// Returns the number of literals for a pattern that is this part.
     pub fn copied(self, entire: Piece) -> usize {
         if entire.is_choice() {
             self.found.saturating_add(self.written)
@@ -38,7 +39,7 @@ impl Literals {
         }
     }
 
-    /// Counts those for an atom behind the rest of its branch: half of the runs go on to it.
+    /// Counts those for an atom after the rest of its branch. Half of the runs are assumed to continue to it.
     pub fn count(&mut self, before: Piece, atom: Piece) {
         let both = before.then(atom);
         if both.most > 1 {
@@ -51,17 +52,17 @@ impl Literals {
             .saturating_add(in_run.saturating_mul(self.runs) / 2);
     }
 
-    /// A run begins at the last atom.
+    /// Begins a run at the last atom.
     pub fn begin(&mut self) {
         self.runs = self.runs.saturating_add(1).min(MOST_RUNS);
     }
 
-    /// Runs end at the last atom.
+    /// Ends the runs at the last atom.
     pub fn end(&mut self) {
         self.in_run = 1;
     }
 
-    /// The last atom, at which runs may have ended, is none after all.
+    /// Takes back that runs may have ended at the last atom, because nothing may be left of it.
     pub fn go_on(&mut self) {
         self.in_run = MOST_IN_RUN - 1;
     }

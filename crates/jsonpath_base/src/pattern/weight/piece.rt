@@ -1,8 +1,8 @@
-//! A part of a pattern, and how parts are put together. `regex` writes a pattern out that is a choice among literals, and copies
-//! those of a branch for each part that follows them.
+//! Describes parts of a pattern, and joins them. `regex` writes out a pattern that is a choice among literals, and
+//! copies those of a branch for each part that follows them.
 
-/// A class is written out if it has no more members than this, a counted repetition if it has no more rounds, and a branch if it
-/// spells no more literals.
+/// The limit for writing out: of the members of a class, of the rounds of a counted repetition, and of the literals of
+/// a branch.
 pub const FEW: usize = 10;
 
 pub const MOST_ROUNDS: usize = 16;
@@ -12,11 +12,12 @@ pub const MOST_LITERALS: usize = 3_000;
 /// A part of a pattern.
 #[derive(Clone, Copy)]
 pub struct Piece {
-    /// How many characters it has where its counted repetitions are written out.
+    /// The number of its characters where its counted repetitions are written out.
     pub length: usize,
-    /// How many bytes of text it spells, if any.
+    /// The number of bytes of text that it spells, or 0.
     pub text: usize,
-    /// How many literals it spells at least and at most, if it is a choice among them; `usize::MAX` at least if it is none.
+    /// The least and the greatest number of literals that it is a choice among. The least is `usize::MAX` if it is no
+    /// such choice.
     pub least: usize,
     pub most: usize,
 }
@@ -38,7 +39,7 @@ pub const NOTHING: Piece = Piece {
 };
 
 impl Piece {
-    /// A character or a member of a class, which stands for so many.
+    /// Returns a character, or a member of a class that stands for `literals` characters.
     pub fn one(length: usize, literals: usize) -> Piece {
         Piece {
             length,
@@ -48,7 +49,7 @@ impl Piece {
         }
     }
 
-    /// Of so many characters, and so many literals, or more if they are few.
+    /// Returns a part of `length` characters that is a choice among at least `least` literals, and at most [`FEW`].
     pub fn some(length: usize, least: usize) -> Piece {
         Piece {
             length,
@@ -58,7 +59,7 @@ impl Piece {
         }
     }
 
-    /// Of so many characters, and one literal at most.
+    /// Returns a part of `length` characters that is one literal at most.
     pub fn maybe(length: usize) -> Piece {
         Piece {
             length,
@@ -68,7 +69,7 @@ impl Piece {
         }
     }
 
-    /// Of so many characters, and no choice among literals.
+    /// Returns a part of `length` characters that is no choice among literals.
     pub fn other(length: usize) -> Piece {
         Piece {
             length,
@@ -78,12 +79,12 @@ impl Piece {
         }
     }
 
-    /// Whether it is a choice among literals, as far as is known.
+    /// Returns whether it is a choice among literals, as far as is known.
     pub fn is_choice(self) -> bool {
         self.least < usize::MAX
     }
 
-    /// This one and then the other.
+    /// Returns this part and then the other.
     pub fn then(self, other: Piece) -> Piece {
         let least = self.least.saturating_mul(other.least);
         Piece {
@@ -98,7 +99,7 @@ impl Piece {
         }
     }
 
-    /// Either of both.
+    /// Returns the choice between both.
     pub fn or(self, other: Piece) -> Piece {
         Piece {
             length: self.length.saturating_add(other.length),
@@ -108,7 +109,7 @@ impl Piece {
         }
     }
 
-    /// This one any number of times, with so many characters more. Of the empty text that is the empty text.
+    /// Returns this part any number of times, with `length` more characters. For the empty text that is the empty text.
     pub fn unbounded(self, length: usize) -> Piece {
         let mut all = self;
         all.length = self.length.saturating_add(length);
@@ -119,7 +120,7 @@ impl Piece {
         all
     }
 
-    /// This one, so often at most.
+    /// Returns this part up to `rounds` times.
     pub fn repeated(self, rounds: usize) -> Piece {
         let mut all = EMPTY;
         for _ in 0..rounds.min(MOST_ROUNDS) {
@@ -129,7 +130,7 @@ impl Piece {
             length: self.length.saturating_mul(rounds),
             text: self.text.saturating_mul(rounds),
             least: all.least,
-            // Where it may be repeated less often, there are twice as many, or one more for each round.
+            // It may be repeated less often, so there are up to twice as many, or one more for each round.
             most: all.most.saturating_mul(2).saturating_add(MOST_ROUNDS),
         }
     }

@@ -1,53 +1,54 @@
-//! Reads a pattern, character by character, for what it takes of `regex`.
+//! Reads a pattern, character by character, to estimate what it costs in `regex`.
 
 use crate::pattern::weight::literals::Literals;
 use crate::pattern::weight::piece::{EMPTY, FEW, MOST_ROUNDS, NOTHING, Piece};
 use std::alloc::{AllocError, Global};
 
-/// The length of a class of all characters but a few, and of an escape by number.
+/// The length of a class of all characters except a few, and of an escape by number.
 const ALL_BUT_FEW: usize = 6;
 
 /// The length of the ends of a group.
 const ENDS: usize = 2;
 
-/// The length of a test for the end of a word. At a character beyond ASCII `regex` leaves its tables for it, so that each
-/// byte of a text costs a unit more.
+/// The length of a test for the end of a word. At a character that is not ASCII `regex` leaves its tables for it, so
+/// each byte of a text costs one more unit.
 const WORD_END: usize = 8;
 
-/// What a group costs, and for how many others its name costs a unit: it is compared with theirs.
+/// What a group costs, and the number of other groups for which its name costs a unit, because it is compared with
+/// theirs.
 const GROUP: usize = 100;
 
 const NAMES: usize = 64;
 
-/// What it costs to put two classes together, and to find the other cases of a range.
+/// What it costs to combine two classes, and to find the other cases of a range.
 const TOGETHER: usize = 60;
 
 const CASES: usize = 700;
 
-/// A class of all characters but so many may have few.
+/// A negated class that excludes more members than this may have few.
 const ALMOST_ALL: usize = 1_000_000;
 
-/// The length of a pattern whose comments are not told from the rest.
+/// The length that is assumed for a pattern with the flag `x`, because its comments are not recognized.
 const VERBOSE: usize = 1 << 20;
 
-/// Where the next character of a pattern stands.
+/// Where the next character of a pattern is.
 #[derive(Clone, Copy)]
 enum Place {
-    /// Behind nothing of the following.
+    /// After nothing that is listed below.
     Free,
-    /// Behind a backslash.
+    /// After a backslash.
     Escaped,
-    /// Behind an escape that takes a name, and in the braces of the name.
+    /// After an escape that takes a name, and in the braces of the name.
     Named,
     Name,
-    /// Behind the bracket of a class, and behind the `^` that turns the class round.
+    /// After the bracket of a class, and after the `^` that negates the class.
     Opened,
     Turned,
-    /// Behind the `-` of a range.
+    /// After the `-` of a range.
     Range,
-    /// In a counted repetition: its greatest number so far, and the one at hand.
+    /// In a counted repetition, with its greatest number so far, and the current one.
     Count { most: usize, number: usize },
-    /// Behind the parenthesis of a group, and behind the `?` that follows it.
+    /// After the parenthesis of a group, and after the `?` that follows it.
     Group,
     Flags,
 }
@@ -58,34 +59,35 @@ pub struct Scale {
     /// The length of a class of a property.
     property: usize,
     place: Place,
-    /// How many brackets of classes are open.
+    /// The number of open brackets of classes.
     brackets: usize,
-    /// Of each open group or class what stands before it in the one around it: the branches that have ended, and the last one.
+    /// For each open group or class, what is before it in the one around it: the branches that have ended, and the last
+    /// one.
     outer: Vec<(Piece, Piece)>,
-    /// The branches of the innermost one that have ended; of a class its members.
+    /// The branches that have ended of the innermost group, or the members of the innermost class.
     ended: Piece,
     /// Its last branch before the last atom.
     before: Piece,
     /// The last atom, which a repetition multiplies.
     atom: Piece,
-    /// The last character of a class; whether it is turned round, and whether it may have few members, or none, for all that is
-    /// known.
+    /// The last character of a class; whether the class is negated; and whether it may have few members, or none, as
+    /// far as is known.
     last: usize,
     is_turned: bool,
     is_unknown: bool,
-    /// Whether a letter stands for its other case too, and whether an escape may stand for those of ASCII alone.
+    /// Whether a letter also matches its other case, and whether an escape may match ASCII only.
     has_cases: bool,
     has_bytes: bool,
     groups: usize,
     literals: Literals,
     /// Whether the last atom is a character to which the next one is joined.
     is_text: bool,
-    /// What else it costs to read it.
+    /// What reading the pattern costs in addition.
     more: usize,
 }
 
 impl Scale {
-    /// Reads a pattern. A class of a property has so many characters.
+    /// Reads a pattern, where a class of a property has the length `property`.
     pub fn of(alloc: Global, pattern: &str, property: usize) -> Result<Scale, AllocError> {
         let mut scale = Scale {
             property,
@@ -111,18 +113,19 @@ impl Scale {
         Ok(scale)
     }
 
-    /// About how many characters it has where its counted repetitions are written out.
+    /// Returns about how many characters the pattern has where its counted repetitions are written out.
     pub fn length(&self) -> usize {
         self.entire().length
     }
 
-    /// What reading it costs beside: its groups, its classes, and the literals that it is a choice among.
+    /// Returns what reading the pattern costs in addition: its groups, its classes, and the literals that it is a
+    /// choice among.
     pub fn beside(&self) -> usize {
         let copied = self.literals.copied(self.entire());
         self.more.saturating_add(copied)
     }
 
-    /// All of the innermost group or class that was read.
+    /// Returns all that was read of the innermost group or class.
     fn entire(&self) -> Piece {
         self.ended.or(self.before.then(self.atom))
     }
@@ -151,7 +154,7 @@ impl Scale {
         Ok(())
     }
 
-    /// Reads a character behind nothing that gives it another meaning.
+    /// Reads a character after nothing that changes its meaning.
     fn put_free(&mut self, c: char) -> Result<(), AllocError> {
         let is_joined = self.is_text;
         self.is_text = false;
@@ -173,7 +176,7 @@ impl Scale {
         Ok(())
     }
 
-    /// Reads a character that stands for itself. One behind another is joined to it.
+    /// Reads a character that matches itself. It is joined to such a character before it.
     fn put_text(&mut self, c: char, is_joined: bool) {
         if is_joined {
             self.put_atom(Piece::one(c.len_utf8(), 1));
@@ -186,7 +189,7 @@ impl Scale {
         self.is_text = !self.has_cases;
     }
 
-    /// Reads what stands behind a backslash. A property may have few members, and so may a range that an escape ends.
+    /// Reads what is after a backslash. A property may have few members, and so may a range that an escape ends.
     fn put_escaped(&mut self, c: char) {
         if matches!(c, 'p' | 'P' | 'x' | 'u' | 'U') {
             self.place = Place::Named;
@@ -219,8 +222,8 @@ impl Scale {
         self.place = Place::Count { most, number };
     }
 
-    /// Reads the end of a counted repetition. One whose last number is 0, or left out, is taken to have no bound; where it has
-    /// no other, nothing may be left of the atom.
+    /// Reads the end of a counted repetition. If its last number is 0 or missing, it is assumed to have no bound. If it
+    /// has no other number, nothing may be left of the atom.
     fn put_rounds(&mut self, most: usize, last: usize) {
         let part = self.atom.repeated(most.max(1));
         if most == 0 {
@@ -234,7 +237,7 @@ impl Scale {
         }
     }
 
-    /// The last atom becomes this part, at which a run may end.
+    /// Replaces the last atom by this part, at which a run may end.
     fn put_other(&mut self, part: Piece) {
         self.atom = part;
         if !part.is_choice() {
@@ -242,7 +245,7 @@ impl Scale {
         }
     }
 
-    /// Reads a character behind the `(?` of a group.
+    /// Reads a character after the `(?` of a group.
     fn put_flag(&mut self, c: char) {
         match c {
             ')' => return self.close_group(),
@@ -274,7 +277,7 @@ impl Scale {
         self.add_character(c);
     }
 
-    /// Reads the end of a range, or what takes a class away.
+    /// Reads the end of a range, or the operator that subtracts a class.
     fn end_range(&mut self, c: char) {
         if c == '-' {
             self.put_together();
@@ -285,13 +288,13 @@ impl Scale {
         self.add(Piece::one(c.len_utf8(), members));
     }
 
-    /// Reads what puts two classes together.
+    /// Reads an operator that combines two classes.
     fn put_together(&mut self) {
         self.is_unknown = true;
         self.more = self.more.saturating_add(TOGETHER);
     }
 
-    /// Adds a character that stands for itself.
+    /// Adds a character that matches itself.
     fn add_character(&mut self, c: char) {
         let mut literals = 1;
         if self.has_cases && c.is_ascii_alphabetic() {
@@ -317,14 +320,14 @@ impl Scale {
         self.atom = part;
     }
 
-    /// The last atom becomes this part, which repeats it or is a group.
+    /// Replaces the last atom by this part, which repeats it or is a group.
     fn repeat(&mut self, part: Piece) {
         self.atom = part;
         self.literals.count(self.before, self.atom);
         self.literals.begin();
     }
 
-    /// The group at hand is one that is found again, by a number or a name.
+    /// Records that the current group can be referred to, by a number or a name.
     fn add_group(&mut self) {
         self.before.length = self.before.length.saturating_add(ENDS);
         self.groups = self.groups.saturating_add(1);
@@ -361,7 +364,7 @@ impl Scale {
         self.atom = EMPTY;
     }
 
-    /// What was opened last, which ends here.
+    /// Returns the group or class that was opened last, which ends here.
     fn close(&mut self) -> Piece {
         let entire = self.entire();
         let (ended, before) = self.outer.pop().unwrap_or((NOTHING, EMPTY));

@@ -7,7 +7,7 @@ use Rattle.jsonpath_rust.specs.Prelude.States.{argument_content, arguments_trees
 use Rattle.jsonpath_base.proofs.lemmas.documents.{nodes_at}
 use Rattle.jsonpath_parser.specs.tree.Syntax as syntax
 use Rattle.jsonpath_rust.proofs.laws.states.Contents.{IsNodes, IsPlain, targets-mapped, reduced-nodes, targets-reduced, targets-named, targets-some, targets-indexed, targets-sliced, targets-kept, targets-selector, selector-nodes, segments-nodes, length-value, call-plain, value_argument-plain, compare-plain}
-use Rattle.jsonpath_rust.proofs.laws.states.PatternCache.{Shows, alone, finds, named-by_tree, indexed-by_tree, sliced-by_tree, children-by_tree, shows-append, shows-each, shows-kept, shows-as, shows-same}
+use Rattle.jsonpath_rust.proofs.laws.states.Finding.{Shows, alone, finds, named-by_tree, indexed-by_tree, sliced-by_tree, children-by_tree, shows-append, shows-each, shows-kept, shows-as, shows-same}
 use Rattle.jsonpath_rust.proofs.laws.states.Meant.{Means, meant-value, meant-nodes, meant-trees, meant-truth, value-shown, count-shown}
 use Rattle.jsonpath_rust.proofs.laws.states.Parents.{parents, parents-agree, parents-replaced}
 

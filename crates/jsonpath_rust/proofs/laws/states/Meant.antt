@@ -5,7 +5,7 @@ use Rattle.std.proofs.lemmas.Slice.Zip.{AllZip-long}
 use Rattle.jsonpath_base.specs.Prelude.Documents.{absolute, AllZip, answer, argued, Argument, as_nodes, as_trees, as_truth, as_value, Call, call, count_call, count_of, count_value, custom_call, Document, Evaluated, filter_argument, gives_value, has_node, is_query_argument, is_true, is_truth_call, is_truth_test, length_call, literal_argument, match_call, negated, Node, of_nodes, of_value, only_value, relative, search_call, Test, test_argument, tested, Tree, value_call}
 use Rattle.jsonpath_rust.specs.Prelude.States.{call_content, Content, content_trees, count_content, has_target, is_truth, nothing, plain, ref, refs, Target, targets, test_content, test_truth, value, value_content}
 use Rattle.jsonpath_rust.proofs.laws.states.Contents.{IsNodes, IsPlain}
-use Rattle.jsonpath_rust.proofs.laws.states.PatternCache.{Shows}
+use Rattle.jsonpath_rust.proofs.laws.states.Finding.{Shows}
 
 -- the same value, or none; or targets that show the nodes
 abbrev pub Means : Content → Evaluated → Type 0

@@ -6,7 +6,7 @@ use Rattle.jsonpath_rust.specs.Prelude.States.{has_parts, parents_from, Target, 
 use Rattle.jsonpath_rust.proofs.laws.selection.{flat_map-flat_map}
 use Rattle.jsonpath_parser.specs.tree.Syntax as syntax
 use Rattle.jsonpath_rust.proofs.laws.states.Contents.{targets-parents}
-use Rattle.jsonpath_rust.proofs.laws.states.PatternCache.{Shows, finds, subtree-by_tree, shows-as, shows-kept}
+use Rattle.jsonpath_rust.proofs.laws.states.Finding.{Shows, finds, subtree-by_tree, shows-as, shows-kept}
 
 -- ---- a value without parts
 

@@ -1,4 +1,4 @@
--- What the two sides of a comparison and the arguments of calls are inside the evaluator, for its contracts alone.
+-- The values in a filter, and the arguments of calls, for the evaluator's contracts alone.
 use Rattle.std.specs.Prelude.{List, map, Option, Some, None}
 use Rattle.std.specs.declared.fmt.Debug as debug
 use Rattle.jsonpath_base.specs.Tree as tree
@@ -20,16 +20,16 @@ scalar_tree (scalar.Truth b) = tree.truth b
 scalar_tree (scalar.Number n) = tree.number n
 scalar_tree (scalar.Text s) = tree.text s.now
 
--- the value that a side is, if it is not absent
+-- the value, if it is not absent
 abbrev pub filter_ref_tree : {A : Type 0} {R : Ghosts A} {D : debug.Ghosts A} → FilterValueRef A R D → Option Tree
 filter_ref_tree side.Absent = None
-filter_ref_tree (side.Lent v) = Some (tree_of v)
+filter_ref_tree (side.Borrowed v) = Some (tree_of v)
 filter_ref_tree (side.Plain s) = Some (scalar_tree s)
 
--- the value that a part of a filter gives, if there is one
+-- the value of an expression in a filter, if there is one
 abbrev pub filter_value_tree : {A : Type 0} {R : Ghosts A} {D : debug.Ghosts A} → FilterValue A R D → Option Tree
-filter_value_tree (operand.FilterValueRef s) = filter_ref_tree s
-filter_value_tree (operand.Made v) = Some (own_tree v)
+filter_value_tree (operand.Ref s) = filter_ref_tree s
+filter_value_tree (operand.Owned v) = Some (own_tree v)
 
 -- the arguments of a custom function
 abbrev pub arg_trees : {A : Type 0} {R : Ghosts A} {D : debug.Ghosts A} → Args A R D → List Tree

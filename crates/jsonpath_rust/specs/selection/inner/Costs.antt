@@ -1,4 +1,4 @@
--- What a value costs where the work of a walk is limited, for the contracts of the walk alone: the definitions here are no part of what a query means.
+-- What a value costs in a walk whose work is limited, for the contracts of the walk alone: the definitions here are no part of what a query means.
 use Rattle.std.specs.Prelude.{ℕ, ◌+◌, ◌-◌, ◌/◌, ◌^◌, min, List, [], ◌∷◌, length, Option, Some, None}
 use Rattle.std.specs.declared.fmt.Debug as debug
 use Rattle.jsonpath_base.specs.Tree.{Tree, text, list, object, Trees, no_trees, tree, Members, no_members, member}
@@ -9,7 +9,7 @@ use Rattle.jsonpath_rust.specs.declared.documents.filter_value.FilterValueRef.Th
 use Rattle.jsonpath_rust.specs.declared.selection.sink.Sink.{Sink}
 use Rattle.jsonpath_rust.specs.declared.selection.sink.Sink.TheVariants as sink
 
--- one for each value in it, and for each 16 bytes of its texts and names
+-- one for each value in it, and one for every 16 bytes of its texts and names
 abbrev mutual
   pub cost : Tree → ℕ
   cost (text s) = length s / 16 + 1
@@ -25,27 +25,27 @@ abbrev mutual
   members_cost no_members = 0
   members_cost (member k t ms) = length k / 16 + (cost t + members_cost ms)
 
--- that of the elements of a list together
+-- the cost of the elements of a list together
 abbrev pub elements_cost : List Tree → ℕ
 elements_cost [] = 0
 elements_cost (t ∷ ts) = cost t + elements_cost ts
 
--- that of the members of an object together
+-- the cost of the members of an object together
 abbrev pub pairs_cost : List (List ℕ × Tree) → ℕ
 pairs_cost [] = 0
 pairs_cost (m ∷ ms) = length m.0 / 16 + (cost m.1 + pairs_cost ms)
 
--- that of the smaller of two values; a number of 64 bits holds it
+-- the cost of the smaller of two values; it fits in 64 bits
 abbrev pub smaller_cost : Tree → Tree → ℕ
 smaller_cost t u = min (min (cost t) (cost u)) (2 ^ 64 - 1)
 
--- the tree of a side, if it is a value of the document or one that a custom function made
+-- the tree of a value in a filter, if it is from the document or from a custom function
 abbrev pub valued : {A : Type 0} {R : Ghosts A} {D : debug.Ghosts A} → FilterValueRef A R D → Option Tree
 valued side.Absent = None
-valued (side.Lent v) = Some (tree_of v)
+valued (side.Borrowed v) = Some (tree_of v)
 valued (side.Plain s) = None
 
--- of a comparison
+-- the cost of a comparison
 abbrev pub compared_cost : Option Tree → Option Tree → ℕ
 compared_cost (Some t) (Some u) = smaller_cost t u
 compared_cost _ _ = 1
@@ -55,7 +55,7 @@ abbrev pub text_bytes : Option Tree → ℕ
 text_bytes (Some (text s)) = length s
 text_bytes _ = 0
 
--- what a node costs at least that is given to a sink, at a location of so many steps
+-- what a node at a location of this many steps costs at least that is passed to a sink
 abbrev pub node_cost : {A : Type 0} {R : Ghosts A} {D : debug.Ghosts A} → Sink A R D → ℕ → ℕ
 node_cost (sink.Nodes ns) n = n / 16
 node_cost (sink.Paths ps) n = n / 16

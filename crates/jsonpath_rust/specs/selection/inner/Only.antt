@@ -1,4 +1,4 @@
--- What is told of nodes where only one is wanted, for the crate's own contracts: the definitions here are no part of what a query means.
+-- The answer about an only node, for the crate's own contracts: the definitions here are no part of what a query means.
 use Rattle.std.specs.Prelude.{◌≡◌, ◌≤◌, ℕ, List, [], ◌∷◌, length, string_bytes}
 use Rattle.jsonpath_base.specs.Tree.{Tree}
 use Rattle.jsonpath_rust.specs.declared.selection.sink.Only.{Only}

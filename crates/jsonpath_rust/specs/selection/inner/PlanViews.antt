@@ -1,4 +1,4 @@
--- What the parts of a plan stand for. A part of a plan stands for a part of a query where it is known what is kept.
+-- What the parts of a plan mean. A part of a plan means a part of a query, given the constants.
 use Rattle.std.specs.Prelude.{◌≡◌, ℕ, List, [], ◌∷◌, ◌++◌, map, get_or, Bool, true, false, IsTrue, string_bytes, if◌then◌else◌}
 use Rattle.std.specs.Coded.{Coded-set, coded_bool, codes}
 use Rattle.std.specs.List.{list_all}
@@ -23,27 +23,27 @@ is_same_demand Single Single = true
 is_same_demand Values Values = true
 is_same_demand _ _ = false
 
--- whether a count of nodes tells what is wanted of them
+-- whether the number of nodes is enough for the demand
 abbrev pub is_counted : Demand → Bool
 is_counted Exists = true
 is_counted Count = true
 is_counted _ = false
 
--- a part of the query without `@`: what is wanted of the nodes of a query from the root, what a call answers, or whether a filter holds,
--- which is a comparison in each plan that is made
+-- a part of the query without `@`: what is demanded of the nodes of a query from the root, what a call returns, or whether a filter holds, which is a
+-- comparison in each plan that is made
 pub data ConstantPart : Type 0 where
   nodes : Demand → tree.Query → ConstantPart
   call_result : tree.Call → ConstantPart
   compared : tree.Filter → ConstantPart
   deriving IsSet as ConstantPart_set
 
--- what is kept, by number
+-- the constants, by number
 abbrev pub Constants : Type 0
 Constants = List ConstantPart
 
 ruleset sets = (Coded-set, codes)
 
--- what is kept is data: there is one proof that two of it are the same
+-- constants are data: there is one proof that two of them are the same
 pub Constants-set : IsSet Constants
 Constants-set = is_set (ConstantPart_set (hlevel sets) Query-set Call-set Filter-set)
 
@@ -56,11 +56,11 @@ part_is_rooted (compared c) = filter_is_rooted c
 abbrev pub AreRooted : Constants → Type 0
 AreRooted constants = IsTrue (list_all part_is_rooted constants)
 
--- `$` where none is kept
+-- the constant of this number, or `$` if there is none
 abbrev pub part_at : Constants → ℕ → ConstantPart
 part_at constants n = get_or constants n (nodes Exists tree.no_segments)
 
--- whether it is no query, or one of which this is wanted
+-- whether it is no query, or a query with this demand
 abbrev pub fits : Demand → ConstantPart → Bool
 fits w (nodes v q) = is_same_demand w v
 fits w _ = true
@@ -69,7 +69,7 @@ abbrev pub is_query_part : ConstantPart → Bool
 is_query_part (nodes v q) = true
 is_query_part _ = false
 
--- the part of a query that is kept, where this is wanted of it; `$` in the place of a query of which another is
+-- the argument that the constant means for this demand; `$` for a query with another demand
 abbrev pub argument_in : Demand → ConstantPart → tree.Argument
 argument_in w (nodes v q) = tree.test_argument (tree.absolute (if is_same_demand w v then q else tree.no_segments))
 argument_in w (call_result c) = tree.test_argument (tree.call c)
@@ -78,13 +78,13 @@ argument_in w (compared f) = tree.filter_argument f
 abbrev pub argument_at : Constants → Demand → ℕ → tree.Argument
 argument_at constants w n = argument_in w (part_at constants n)
 
--- the filter that tests it: a filter is one itself
+-- the filter that tests an argument: a filter is one itself
 abbrev pub truth_of : tree.Argument → tree.Filter
 truth_of (tree.test_argument t) = tree.test false t
 truth_of (tree.filter_argument f) = f
 truth_of (tree.literal_argument l) = tree.compare tree.equal (tree.literal_argument l) (tree.literal_argument (tree.bool true))
 
--- the same, turned round where `not`, of what is no constant; so each plan's part is more than what it tests
+-- the same, negated if `not`, for an argument that is no constant; so the plan of a test has more parts than what it tests
 abbrev pub asked : Bool → tree.Argument → tree.Filter
 asked not (tree.test_argument t) = tree.test not t
 asked not a = tree.group not (tree.group false (truth_of a))
@@ -93,20 +93,20 @@ asked not a = tree.group not (tree.group false (truth_of a))
 abbrev pub steps_query : List tree.Segment → tree.Query
 steps_query ss = segments_of ss
 
--- all children of what these steps lead to
+-- all children of the node that these steps lead to
 abbrev pub children_query : List tree.Segment → tree.Query
 children_query ss = segments_of (ss ++ tree.one tree.wildcard ∷ [])
 
--- these, where their count tells what is wanted; else their count
+-- these children, if their number is enough for the demand; else their number
 abbrev pub children_argument : Demand → List tree.Segment → tree.Argument
 children_argument Exists ss = tree.test_argument (tree.relative (children_query ss))
 children_argument Count ss = tree.test_argument (tree.relative (children_query ss))
 children_argument _ ss = tree.test_argument (tree.call (tree.count_call (tree.test_argument (tree.relative (children_query ss)))))
 
--- One layer of each type, with its parts seen already. Parts of filters are seen for what is wanted of them.
+-- One layer of each type, with the views of its parts. The parts of filters are viewed by demand.
 
 abbrev pub Layer : (Type 0 → Type 0 → Type 0 → Type 0 → Type 0 → Type 0) → Type 0
-Layer F = F tree.Call tree.Filter (Demand → tree.Argument) tree.Segment tree.Selector
+Layer F = F tree.Call (Demand → tree.Argument) tree.Filter tree.Segment tree.Selector
 
 abbrev pub call_step : Layer Call-F → tree.Call
 call_step (Call-F.Custom s v) = tree.custom_call (string_bytes s) (arguments_of (map (λ x. x Values) v.items))
@@ -124,15 +124,15 @@ filter_step constants (Filter-F.Test a not) = asked not (a Exists)
 filter_step constants (Filter-F.Comparison op a b) = tree.compare (operator_view op) (a Single) (b Single)
 filter_step constants (Filter-F.«Filter::Constant» n) = truth_of (argument_at constants Exists n)
 
-abbrev pub part_step : Constants → Layer Expr-F → Demand → tree.Argument
-part_step constants (Expr-F.Literal l) w = tree.literal_argument (literal_view l)
-part_step constants (Expr-F.Pattern s n) w = tree.literal_argument (tree.string (string_bytes s))
-part_step constants (Expr-F.Lookup v) w = tree.test_argument (tree.relative (steps_query (map step_view v.items)))
-part_step constants (Expr-F.Children v) w = children_argument w (map step_view v.items)
-part_step constants (Expr-F.Walk v) w = tree.test_argument (tree.relative (segments_of v.items))
-part_step constants (Expr-F.Call c) w = tree.test_argument (tree.call c.value)
-part_step constants (Expr-F.«Expr::Filter» f) w = tree.filter_argument f.value
-part_step constants (Expr-F.«Expr::Constant» n) w = argument_at constants w n
+abbrev pub expr_step : Constants → Layer Expr-F → Demand → tree.Argument
+expr_step constants (Expr-F.Literal l) w = tree.literal_argument (literal_view l)
+expr_step constants (Expr-F.Pattern s n) w = tree.literal_argument (tree.string (string_bytes s))
+expr_step constants (Expr-F.Lookup v) w = tree.test_argument (tree.relative (steps_query (map step_view v.items)))
+expr_step constants (Expr-F.Children v) w = children_argument w (map step_view v.items)
+expr_step constants (Expr-F.Walk v) w = tree.test_argument (tree.relative (segments_of v.items))
+expr_step constants (Expr-F.Call c) w = tree.test_argument (tree.call c.value)
+expr_step constants (Expr-F.«Expr::Filter» f) w = tree.filter_argument f.value
+expr_step constants (Expr-F.«Expr::Constant» n) w = argument_at constants w n
 
 abbrev pub segment_step : Layer Segment-F → tree.Segment
 segment_step (Segment-F.Descendant s) = tree.descendant s.value
@@ -146,24 +146,24 @@ selector_step (Selector-F.Index i) = tree.index i
 selector_step (Selector-F.Slice start end step) = tree.slice start end step
 selector_step (Selector-F.«Selector::Filter» f) = tree.filter f
 
--- The folds. The steps stand in the order of the types, by alphabet.
+-- The folds. The step functions are in the order of the types, by alphabet.
 
 abbrev pub call_view : Constants → Call → tree.Call
-call_view constants = fold-Call tree.Call tree.Filter (Demand → tree.Argument) tree.Segment tree.Selector call_step (filter_step constants) (part_step constants) segment_step selector_step
+call_view constants = fold-Call tree.Call (Demand → tree.Argument) tree.Filter tree.Segment tree.Selector call_step (expr_step constants) (filter_step constants) segment_step selector_step
 
 abbrev pub filter_view : Constants → Filter → tree.Filter
-filter_view constants = fold-Filter tree.Call tree.Filter (Demand → tree.Argument) tree.Segment tree.Selector call_step (filter_step constants) (part_step constants) segment_step selector_step
+filter_view constants = fold-Filter tree.Call (Demand → tree.Argument) tree.Filter tree.Segment tree.Selector call_step (expr_step constants) (filter_step constants) segment_step selector_step
 
 abbrev pub expr_view : Constants → Expr → Demand → tree.Argument
-expr_view constants = fold-Expr tree.Call tree.Filter (Demand → tree.Argument) tree.Segment tree.Selector call_step (filter_step constants) (part_step constants) segment_step selector_step
+expr_view constants = fold-Expr tree.Call (Demand → tree.Argument) tree.Filter tree.Segment tree.Selector call_step (expr_step constants) (filter_step constants) segment_step selector_step
 
 abbrev pub segment_view : Constants → Segment → tree.Segment
-segment_view constants = fold-Segment tree.Call tree.Filter (Demand → tree.Argument) tree.Segment tree.Selector call_step (filter_step constants) (part_step constants) segment_step selector_step
+segment_view constants = fold-Segment tree.Call (Demand → tree.Argument) tree.Filter tree.Segment tree.Selector call_step (expr_step constants) (filter_step constants) segment_step selector_step
 
 abbrev pub selector_view : Constants → Selector → tree.Selector
-selector_view constants = fold-Selector tree.Call tree.Filter (Demand → tree.Argument) tree.Segment tree.Selector call_step (filter_step constants) (part_step constants) segment_step selector_step
+selector_view constants = fold-Selector tree.Call (Demand → tree.Argument) tree.Filter tree.Segment tree.Selector call_step (expr_step constants) (filter_step constants) segment_step selector_step
 
--- lists of parts, one behind the other
+-- lists of parts, one after the other
 abbrev pub segments_meant : Constants → List Segment → tree.Segments
 segments_meant constants gs = segments_of (map (segment_view constants) gs)
 
@@ -177,7 +177,7 @@ filters_meant constants fs = filters_of (map (filter_view constants) fs)
 abbrev pub arguments_meant : Constants → List Expr → tree.Arguments
 arguments_meant constants args = arguments_of (map (λ a. expr_view constants a Values) args)
 
--- each stands for a part where those before it are kept
+-- what each means, given the constants before it
 abbrev pub constant_view : Constants → Constant → ConstantPart
 constant_view constants (constant.Nodes gs w n) = nodes w (segments_meant constants gs.items)
 constant_view constants (constant.Answer c) = call_result (call_view constants c)
@@ -190,7 +190,7 @@ kept_from constants (e ∷ es) = kept_from (constants ++ constant_view constants
 abbrev pub constants_view : List Constant → Constants
 constants_view es = kept_from [] es
 
--- each stands for the same part where all are kept
+-- each means the same, given all constants
 abbrev pub IsStable : List Constant → Type 0
 IsStable es = map (constant_view (constants_view es)) es ≡ constants_view es
 

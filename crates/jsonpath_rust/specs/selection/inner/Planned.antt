@@ -1,4 +1,4 @@
--- The query that a plan stands for.
+-- The query that a plan means.
 use Rattle.std.specs.Prelude.{◌≡◌}
 use Rattle.jsonpath_parser.specs.tree.Syntax.{Query}
 use Rattle.jsonpath_rust.specs.selection.inner.PlanViews.{constants_view, segments_meant}

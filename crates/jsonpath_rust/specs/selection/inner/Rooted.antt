@@ -1,4 +1,4 @@
--- Parts of a query that stand on the root alone: each query from the current node in them lies in a filter of theirs.
+-- Parts of a query that depend on the root alone: each query from the current node in them is in a filter of theirs.
 use Rattle.std.specs.Prelude.{◌≡◌, Bool, true, false, ◌&&◌}
 use mathlib.Core.Path.{refl, sym, ◌∙◌, ap}
 use Rattle.std.specs.Coded.{Coded-set, codes}
@@ -47,7 +47,7 @@ ruleset sets = (Coded-set, codes)
 pub Query-set : IsSet Query
 Query-set = syntax.Segments_set (hlevel sets) (hlevel sets) (hlevel sets) (hlevel sets) (hlevel sets) (hlevel sets)
 
--- what can be read again from data is data
+-- what can be recovered from data is data
 set_by : {A B : Type 0} (to : A → B) (from : B → A) → ((a : A) → from (to a) ≡ a) → IsSet B → IsSet A
 set_by to from back Bs = collapsible→set (λ x y p. sym (back x) ∙ ap from (ap to p) ∙ back y) (λ x y p q. ap (λ (r : to x ≡ to y). sym (back x) ∙ ap from r ∙ back y) (Bs (to x) (to y) (ap to p) (ap to q)))
 

@@ -1,4 +1,4 @@
--- What a walk gives to a sink, for the contracts of the walk alone: the definitions here are no part of what a query means.
+-- What a walk passes to a sink, for the contracts of the walk alone: the definitions here are no part of what a query means.
 use Rattle.std.specs.Prelude.{◌≡◌, ℕ, zero, suc, ◌-◌, List, [], ◌∷◌, ◌++◌, map, take, Bool, true, false, Option, Some, None, Result, IfOk}
 use Rattle.std.specs.declared.fmt.Debug as debug
 use Rattle.jsonpath_parser.specs.Location.{Location}
@@ -22,11 +22,11 @@ use Rattle.jsonpath_rust.specs.declared.documents.nodes.WholeSingle.{WholeSingle
 use Rattle.jsonpath_rust.specs.declared.documents.nodes.WholeSingle.TheVariants.{Nothing, One, Several}
 use Rattle.jsonpath_base.specs.declared.documents.queryable.Queryable.{Ghosts}
 
--- a node as it is answered: its Normalized Path and its tree
+-- a node as it is returned: its Normalized Path and its tree
 abbrev pub path_and_tree : Node → List ℕ × Tree
 path_and_tree n = (normal n.location, n.tree)
 
--- a sink, without where its values lie in memory
+-- a sink, without the places of its values in memory
 pub data Seen : Type 0 where
   nodes : List (List ℕ × Tree) → Seen
   paths : List (List ℕ) → Seen
@@ -81,7 +81,7 @@ abbrev pub feed : Seen → List Node → Seen
 feed s [] = s
 feed s (n ∷ ns) = feed (add s n) ns
 
--- whether further nodes make no difference
+-- whether more nodes make no difference
 abbrev pub full : Seen → Bool
 full (counted zero most) = true
 full several = true
@@ -115,23 +115,23 @@ abbrev pub values_in : Seen → List Tree
 values_in (values ts) = ts
 values_in _ = []
 
--- s was given these nodes and became s'; the walk may stop only where more would make no difference
+-- s took these nodes and became s'; the walk may stop only where more would make no difference
 pub record Fed (s : Seen) (ns : List Node) (s' : Seen) (goes_on : Bool) : Type 0 where
   pub given : s' ≡ feed s ns
   pub stopped : goes_on ≡ false → full s' ≡ true
 
--- the sink was given these nodes, and the result says whether to go on
+-- the sink took these nodes, and the result says whether to go on
 abbrev pub Feeds : {A E : Type 0} {R : Ghosts A} {D : debug.Ghosts A} → Sink A R D → Sink A R D → List Node → Result Bool E → Type 0
 Feeds old new ns result = IfOk result (λ b. Fed (seen old) ns (seen new) b)
 
--- ---- a sink beside the way
+-- ---- a sink and the current path
 
--- where it marks, the steps that are settled are the first of the location that it marked last
+-- if the sink marks locations, the shared steps are the first of the location that it marked last
 abbrev pub IsPrefixInSync : {A : Type 0} {R : Ghosts A} {D : debug.Ghosts A} → Sink A R D → CurrentPath → Type 0
 IsPrefixInSync (sink.LocationSet r copy) current_path = LastBegins r.value (take current_path.shared_len (lent_location current_path.steps.items))
 IsPrefixInSync _ current_path = Unit {0}
 
--- Where that is so, it was given these nodes, and it is so again.
+-- If that is so, the sink took these nodes, and it is so again.
 pub record FedInSync {A : Type 0} {R : Ghosts A} {D : debug.Ghosts A} (s : Sink A R D × CurrentPath) (ns : List Node) (s' : Sink A R D × CurrentPath) (goes_on : Bool) : Type 0 where
   pub took : IsPrefixInSync s.0 s.1 → Fed (seen s.0) ns (seen s'.0) goes_on
   pub tied : IsPrefixInSync s.0 s.1 → IsPrefixInSync s'.0 s'.1
@@ -140,7 +140,7 @@ pub record FedInSync {A : Type 0} {R : Ghosts A} {D : debug.Ghosts A} (s : Sink 
 abbrev pub FeedsInSync : {A E : Type 0} {R : Ghosts A} {D : debug.Ghosts A} → Sink A R D × CurrentPath → Sink A R D × CurrentPath → List Node → Result Bool E → Type 0
 FeedsInSync old new ns result = IfOk result (λ b. FedInSync old ns new b)
 
--- The removal is of these locations.
+-- The set is of these locations.
 pub record IsLocationSetOf (r : LocationSet) (ls : List Location) : Type 0 where
   pub set : location_set r ≡ is_among ls
   pub count : location_count r ≡ distinct_count ls

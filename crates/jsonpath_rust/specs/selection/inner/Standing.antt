@@ -1,4 +1,4 @@
--- Where a walk stands and how it comes back, for the contracts of the walk alone: the definitions here are no part of what a query means.
+-- Where a walk is and how it returns, for the contracts of the walk alone: the definitions here are no part of what a query means.
 use Rattle.std.specs.Prelude.{◌≡◌, List, map, Bool, Some, IsTrue, All, Result, IfErr, OnOk, OnErr}
 use Rattle.std.specs.declared.fmt.Debug as debug
 use Rattle.jsonpath_parser.specs.tree.Syntax.{Argument}
@@ -16,17 +16,18 @@ use Rattle.jsonpath_rust.specs.declared.selection.walk.WalkState.{WalkState}
 use Rattle.jsonpath_rust.specs.declared.selection.walk.WalkContext.{WalkContext}
 use Rattle.jsonpath_base.specs.declared.step.StepRef.{StepRef}
 
--- At a value to which these steps lead; and what is kept is right.
+-- The walk is at a value to which these steps lead, and the cache is correct.
 pub record IsPositioned {A : Type 0} {R : Ghosts A} {D : debug.Ghosts A} (context : WalkContext A R D) (x : WholeRef A R D) (steps : List StepRef) (cache : Cache A R D) : Type 0 where
   pub position : LeadTo steps context.root x
   pub ready : IsCacheCorrect context cache
 
--- The way is as it was, and what is kept is right.
+-- The current path is as it was, and the cache is correct.
 pub record Returns {A : Type 0} {R : Ghosts A} {D : debug.Ghosts A} (context : WalkContext A R D) (old new : WalkState A R D) : Type 0 where
   pub same : new.current_path.steps.items ≡ old.current_path.steps.items
   pub ready : IsCacheCorrect context new.cache
 
--- How a call comes back: where it goes on, as it stood; where it halts, what is kept is right, and one of these patterns is asked, or memory or the work ran out.
+-- How a call ends: if it goes on, with the same current path; if it ends with an error, with a correct cache, and one of these patterns is asked, or
+-- memory or the units ran out.
 pub record EndsProperly {A B : Type 0} {R : Ghosts A} {D : debug.Ghosts A} (context : WalkContext A R D) (old new : WalkState A R D) (patterns : List (Bool × Argument)) (result : Result B WalkError) : Type 0 where
   pub back : OnOk result (Returns context old new)
   pub ready : OnErr result (IsCacheCorrect context new.cache)

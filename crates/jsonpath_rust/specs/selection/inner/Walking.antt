@@ -25,18 +25,18 @@ node_of steps x = record { location = lent_location steps; tree = tree_of x }
 abbrev pub LeadTo : {A : Type 0} {R : Ghosts A} {D : debug.Ghosts A} → List StepRef → WholeRef A R D → WholeRef A R D → Type 0
 LeadTo steps root x = at (lent_location steps) (tree_of root) ≡ Some (tree_of x)
 
--- The segments applied to one node, and the rest to each node that comes, before the next one.
+-- The segments applied to one node, and the rest to each node that they select, before the next one.
 abbrev pub selected_from : Segments → Document → Node → List Node
 selected_from no_segments d n = n ∷ []
 selected_from (segment g gs) d n = flat_map (selected_from gs d) (replaced g d n)
 
--- the nodes that an action makes of one node
+-- the nodes that a visit selects from one node
 abbrev pub visited_nodes : Constants → Visit → Document → Node → List Node
 visited_nodes constants visit.Continue d n = n ∷ []
 visited_nodes constants (visit.Filter f) d n = filter (holds (filter_view constants f.now) d) (n ∷ [])
 visited_nodes constants (visit.Descend g) d n = flat_map (replaced (segment_view constants g.now) d) (subtree n)
 
--- the patterns that stand in an action
+-- the patterns in a visit
 abbrev pub visit_patterns : Constants → Visit → List (Bool × Argument)
 visit_patterns constants visit.Continue = []
 visit_patterns constants (visit.Filter f) = filter_patterns (filter_view constants f.now)

@@ -1,4 +1,4 @@
--- The parts of the plain evaluator, for its contracts alone: the definitions here are no part of what a query means.
+-- The parts of the evaluator of states, for its contracts alone: the definitions here are no part of what a query means.
 use Rattle.std.specs.Prelude.{◌≡◌, List, [], ◌++◌, Bool, Option, Some, None, if◌then◌else◌, string_bytes}
 use Rattle.std.specs.List.{flat_map, AllZip}
 use Rattle.std.specs.declared.fmt.Debug as debug
@@ -14,7 +14,7 @@ use Rattle.jsonpath_base.specs.documents.inner.Parts.{selectors_in}
 use Rattle.jsonpath_rust.specs.documents.Whole.{document_at}
 use Rattle.jsonpath_base.specs.declared.documents.queryable.Queryable.{Ghosts}
 use Rattle.jsonpath_rust.specs.declared.states.evaluate.Evaluation.{Evaluation}
-use Rattle.jsonpath_rust.specs.declared.states.evaluate.segments.NodeOperation.{Part}
+use Rattle.jsonpath_rust.specs.declared.states.evaluate.segments.NodeOperation.{NodeOperation}
 use Rattle.jsonpath_rust.specs.declared.states.evaluate.segments.NodeOperation.TheVariants.{Name, Wildcard, Index, Slice, Parents, Kept, Joined}
 use Rattle.jsonpath_base.specs.declared.documents.walk_error.WalkError.{WalkError}
 use Rattle.jsonpath_base.specs.declared.documents.walk_error.WalkError.TheVariants.{Memory}
@@ -25,11 +25,11 @@ use Rattle.jsonpath_rust.specs.declared.states.held.WholePointer.{WholePointer}
 use Rattle.jsonpath_rust.specs.declared.states.held.WholePointerRef.{WholePointerRef}
 use Rattle.jsonpath_rust.specs.declared.states.held.WholePointers.{WholePointers}
 
--- what is asked, seen as the meaning has it
+-- the document of the evaluation, as the meaning of a query takes it
 abbrev pub document : {A : Type 0} {R : Ghosts A} {D : debug.Ghosts A} → Evaluation A R D → Document
 document at = document_at at.root
 
--- so data and pointers whose values are whole
+-- the same for data and pointers whose values are whole
 abbrev pub content_at : {A : Type 0} {R : Ghosts A} {D : debug.Ghosts A} → WholeData A R D → Content
 content_at {R = R} d = content_of R.tree d.content
 
@@ -46,8 +46,8 @@ targets_at {R = R} ps = targets_of R.tree ps.list.items
 abbrev pub parts_from : Target → Option (List Target)
 parts_from p = if has_parts p.tree then Some (found_from p children) else None
 
--- what a part makes of one node
-abbrev pub part_content : Part → Document → Target → Content
+-- what an operation returns at one node
+abbrev pub part_content : NodeOperation → Document → Target → Content
 part_content (Name s) d p = named_from (string_bytes s.now) p
 part_content Wildcard d p = children_from p
 part_content (Index i) d p = indexed_from i p
@@ -56,13 +56,13 @@ part_content Parents d p = parents_from p
 part_content (Kept f) d p = kept_from (holds_at (filter_view f.now) d) p
 part_content (Joined ss) d p = joined_from (selectors_in ss.now) d nothing p
 
--- the patterns that stand in a part
-abbrev pub part_patterns : Part → List (Bool × Argument)
+-- the patterns in an operation
+abbrev pub part_patterns : NodeOperation → List (Bool × Argument)
 part_patterns (Kept f) = filter_patterns (filter_view f.now)
 part_patterns (Joined ss) = selectors_patterns (selectors_in ss.now)
 part_patterns _ = []
 
--- ---- why an answer is refused
+-- ---- why there is an error
 
 -- memory ran out, or one of these patterns was asked at a value in the document or in a node of the state
 abbrev pub HaltsBelow : List (Bool × Argument) → Document → Content → WalkError → Type 0

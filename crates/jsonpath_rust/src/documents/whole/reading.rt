@@ -1,4 +1,4 @@
-//! What is read of a whole value: each call of [`Queryable`] agrees with its tree.
+//! The methods that read a whole value: each call of [`Queryable`] agrees with its tree.
 ghost use Rattle.std.specs.Prelude.{◌<◌, ◌≡◌, All, IfErr, IfOk, IfSome, IsTrue, length, map, None, option_map, option_to_list};
 ghost use Rattle.jsonpath_base.specs.Prelude.Documents.{as_bool, as_int, as_list, as_members, as_text, below, get, indexed, Location, MemoryAlone, OutOfMemory, same, size};
 ghost use Rattle.jsonpath_rust.specs.Prelude.Documents.{own_tree, tree_of};
@@ -11,7 +11,7 @@ use crate::documents::whole::{Whole, WholeRef};
 use std::alloc::Global;
 
 impl<T: Queryable> Whole<T> {
-    /// A value of the same tree, which is whole too. It refuses by `OutOfMemory` alone.
+    /// Returns a value of the same tree, which is whole too. It fails with `OutOfMemory` only.
     pub fn try_clone(&self, alloc: Global) -> Queried<Self>
         ensures value { IfOk result (λ v. T.tree v.value ≡ T.tree self.now.value) }
         ensures memory { IfErr result (λ e. e ≡ OutOfMemory) }
@@ -22,7 +22,7 @@ impl<T: Queryable> Whole<T> {
 }
 
 impl<'a, T: Queryable> WholeRef<'a, T> {
-    /// The member of that name.
+    /// Returns the member of that name.
     #[inline(always)]
     pub(crate) fn member(self, name: &str) -> Option<Self>
         ensures { option_map tree_of result ≡ get name.now (tree_of self.entry) }
@@ -33,7 +33,7 @@ impl<'a, T: Queryable> WholeRef<'a, T> {
         }
     }
 
-    /// The element that an index means in a list, with its position, counted from 0 (RFC 9535, 2.3.3).
+    /// Returns the element that an index means in a list, with its position, counted from 0 (RFC 9535, 2.3.3).
     #[inline(always)]
     pub(crate) fn element(self, index: i64) -> Option<(usize, Self)>
         ensures value { (l : Location) → map (λ p. below l (location.index p.0) (tree_of p.1)) (option_to_list result)
@@ -46,7 +46,7 @@ impl<'a, T: Queryable> WholeRef<'a, T> {
         }
     }
 
-    /// The elements of a list.
+    /// Returns the elements of a list.
     #[inline(always)]
     pub(crate) fn elements(self) -> Option<&'a Vec<T>>
         ensures value { option_map (λ v. map T.tree v.now.items) result ≡ as_list (tree_of self.entry) }
@@ -55,7 +55,7 @@ impl<'a, T: Queryable> WholeRef<'a, T> {
         self.value.as_array()
     }
 
-    /// The members of an object, in walk order. It refuses by `OutOfMemory` alone.
+    /// Returns the members of an object, in walk order. It fails with `OutOfMemory` only.
     #[inline(always)]
     pub(crate) fn members(self, alloc: Global) -> Queried<Option<Vec<(&'a str, &'a T)>>>
         ensures value { IfOk result (λ o. option_map
@@ -67,7 +67,7 @@ impl<'a, T: Queryable> WholeRef<'a, T> {
         self.value.as_object(alloc)
     }
 
-    /// How many members an object has. It refuses by `OutOfMemory` alone.
+    /// Returns the number of members of an object. It fails with `OutOfMemory` only.
     #[inline(always)]
     pub(crate) fn member_count(self, alloc: Global) -> Queried<Option<usize>>
         ensures value { IfOk result (λ o. o ≡ option_map (λ ms. length ms) (as_members (tree_of self.entry))) }
@@ -76,7 +76,7 @@ impl<'a, T: Queryable> WholeRef<'a, T> {
         self.value.member_count(alloc)
     }
 
-    /// The text.
+    /// Returns the text, if it is one.
     #[inline(always)]
     pub(crate) fn as_str(self) -> Option<&'a str>
         ensures { option_map (λ s. s.now) result ≡ as_text (tree_of self.entry) }
@@ -84,7 +84,7 @@ impl<'a, T: Queryable> WholeRef<'a, T> {
         self.value.as_str()
     }
 
-    /// The number.
+    /// Returns the number, if it is one.
     #[inline(always)]
     pub(crate) fn as_i64(self) -> Option<i64>
         ensures { result ≡ as_int (tree_of self.entry) }
@@ -92,7 +92,7 @@ impl<'a, T: Queryable> WholeRef<'a, T> {
         self.value.as_i64()
     }
 
-    /// The truth.
+    /// Returns `true` or `false`, if it is one of these.
     #[inline(always)]
     pub(crate) fn as_bool(self) -> Option<bool>
         ensures { result ≡ as_bool (tree_of self.entry) }
@@ -100,7 +100,7 @@ impl<'a, T: Queryable> WholeRef<'a, T> {
         self.value.as_bool()
     }
 
-    /// Whether it is surely a value without children.
+    /// Returns whether it certainly has no children.
     #[inline(always)]
     pub(crate) fn is_leaf(self) -> bool
         ensures list { IsTrue result → None ≡ as_list (tree_of self.entry) }
@@ -109,7 +109,7 @@ impl<'a, T: Queryable> WholeRef<'a, T> {
         is_leaf(self.value)
     }
 
-    /// Whether two values are the same (RFC 9535, 2.3.5.2.2).
+    /// Returns whether two values are the same (RFC 9535, 2.3.5.2.2).
     #[inline(always)]
     pub(crate) fn equal(self, other: WholeRef<'_, T>) -> bool
         ensures { result ≡ same (tree_of self.entry) (tree_of other.entry) }

@@ -1,4 +1,4 @@
-//! How a plan is made: by one pass over the query.
+//! Makes a plan in one pass over the query.
 ghost use Rattle.std.specs.Prelude.{◌≡◌, IfOk, map};
 ghost use Rattle.jsonpath_base.specs.Prelude.Documents.{list_all, MemoryAlone};
 ghost use Rattle.jsonpath_rust.specs.Prelude.Selection.{argument_is_rooted, call_is_rooted, every, filter_is_rooted, Made, Single, plan_view, Values, Demand};
@@ -16,7 +16,7 @@ use jsonpath_parser::model as tree;
 use jsonpath_parser::model::{JpQuery, Operator, SingularQuery};
 use std::alloc::Global;
 
-/// The plan of a query. Linear in the query.
+/// Returns the plan of a query. It takes time linear in the query.
 pub fn plan_of(alloc: Global, query: &JpQuery) -> Parsed<Plan>
     ensures same { IfOk result (λ p. plan_view p ≡ tree.query_view query.now) }
     ensures memory { MemoryAlone result }
@@ -37,13 +37,13 @@ pub fn plan_of(alloc: Global, query: &JpQuery) -> Parsed<Plan>
     })
 }
 
-/// Makes the parts of a plan.
+/// Makes the parts of a plan, and collects its constants and patterns.
 #[derive(Drop)]
 pub struct Maker<'q> {
     pub alloc: Global,
     /// The constants that have a number.
     pub constants: Vec<Constant>,
-    /// What was met since the part at hand began.
+    /// What was met since the current expression began.
     pub scope: Scope,
     /// The patterns that have a number.
     pub patterns: PatternTable<'q>,
@@ -152,7 +152,7 @@ impl<'q> Maker<'q> {
         }
     }
 
-    /// A test, turned round where `not`.
+    /// Makes a test, negated if `not`.
     #[cycle(make)]
     fn test(&mut self, test: &'q tree::Test, not: bool) -> Parsed<Filter>
         ensures made { IfOk result (λ f. Made filter_is_rooted self.old self.new (λ constants. plan.filter_view constants f)
@@ -195,7 +195,7 @@ impl<'q> Maker<'q> {
         }
     }
 
-    /// A query of at most one node, as a side.
+    /// Makes a query of at most one node, as a side of a comparison.
     fn singular(&mut self, query: &'q SingularQuery) -> Parsed<Expr>
         ensures made { IfOk result (λ p. Made argument_is_rooted self.old self.new (λ constants. plan.expr_view constants p Single)
             (syntax.test_argument (tree.singular_view query.now))) }
@@ -218,7 +218,7 @@ impl<'q> Maker<'q> {
         }
     }
 
-    /// A query from the current node.
+    /// Makes a query from the current node.
     #[cycle(make)]
     fn relative(&mut self, segments: &'q [tree::Segment], demand: Demand) -> Parsed<Expr>
         ensures made { IfOk result (λ p. Made argument_is_rooted self.old self.new (λ constants. plan.expr_view constants p demand)
@@ -233,7 +233,7 @@ impl<'q> Maker<'q> {
         Ok(Expr::Walk(self.segments(segments)?))
     }
 
-    /// A query from the root.
+    /// Makes a query from the root, which is a constant.
     #[cycle(make)]
     fn absolute(&mut self, query: &'q JpQuery, demand: Demand) -> Parsed<Expr>
         ensures made { IfOk result (λ p. Made argument_is_rooted self.old self.new (λ constants. plan.expr_view constants p demand)
@@ -251,7 +251,7 @@ impl<'q> Maker<'q> {
         Ok(Expr::Constant(number))
     }
 
-    /// A call: the constant of it, where it has no `@`.
+    /// Makes a call. If it has no `@`, it is a constant.
     #[cycle(make)]
     fn called(&mut self, call: &'q tree::TestFunction) -> Parsed<Expr>
         ensures made { (demand : Demand) → IfOk result (λ p. Made argument_is_rooted self.old self.new
@@ -296,7 +296,7 @@ impl<'q> Maker<'q> {
         }
     }
 
-    /// The arguments of a custom function.
+    /// Makes the arguments of a custom function.
     #[cycle(make)]
     fn arguments(&mut self, arguments: &'q [tree::FnArg]) -> Parsed<Vec<Expr>>
         ensures made { IfOk result (λ v. Made (list_all argument_is_rooted) self.old self.new
@@ -311,7 +311,7 @@ impl<'q> Maker<'q> {
         Ok(parts)
     }
 
-    /// The second argument of `match` or `search`.
+    /// Makes the second argument of `match` or `search`.
     #[cycle(make)]
     fn pattern(&mut self, argument: &'q tree::FnArg, extent: MatchKind) -> Parsed<Expr>
         ensures made { IfOk result (λ p. Made argument_is_rooted self.old self.new (λ constants. plan.expr_view constants p Single)
@@ -340,7 +340,7 @@ impl<'q> Maker<'q> {
         }
     }
 
-    /// A query or a call.
+    /// Makes a test expression: a query or a call.
     #[cycle(make)]
     fn test_part(&mut self, test: &'q tree::Test, demand: Demand) -> Parsed<Expr>
         ensures made { IfOk result (λ p. Made argument_is_rooted self.old self.new (λ constants. plan.expr_view constants p demand)

@@ -1,4 +1,4 @@
-//! The numbers of constants, one after the other, and when each query among them is evaluated.
+//! Numbers the constants and the patterns of a query, and decides when each query from the root is evaluated.
 ghost use Rattle.jsonpath_base.specs.Prelude.Documents.{MemoryAlone};
 ghost use Rattle.jsonpath_parser.specs.tree.Syntax as syntax;
 ghost use Rattle.jsonpath_parser.specs.tree.View as tree;
@@ -18,49 +18,49 @@ use std::alloc::{AllocError, Global};
 use std::collections::BTreeMap;
 use std::mem;
 
-/// How many levels of a document all walks that are on the stack at the same time may be on, together. A level of an
-/// object takes 1.9 KB of stack where it was measured, so they take about 0.95 MB.
+/// The number of levels of a document that all walks on the stack may take together. A level of an object was measured
+/// to take 1.9 KB of stack, so together they take about 0.95 MB.
 const MOST_LEVELS: usize = 500;
 
-/// What a walk takes of the stack beside the document, in levels.
+/// What a walk takes on the stack beside the document, in levels.
 const LEVELS_BESIDE: usize = 3;
 
-/// How many levels of a document a walk may be on in any case: on so few, walks take no more stack than reading the
+/// The number of levels that a walk may take in any case. On so few levels, walks take no more stack than reading the
 /// query's text does.
 const LEAST_LEVELS: usize = 1;
 
 /// The levels of the deepest document that `serde_json` reads.
 pub const DOCUMENT_LEVELS: usize = 127;
 
-/// What the walk of a deep query takes in such a document, in levels.
+/// What the walk of a deep query takes on the stack in such a document, in levels.
 const DEEP: usize = DOCUMENT_LEVELS + LEVELS_BESIDE;
 
 /// A query with more segments than this is deep.
 const FEW_SEGMENTS: usize = 8;
 
-/// Queries from the root in one another: of a part, the most that it contains.
+/// How deep queries from the root are nested in one another, at most.
 ///
-/// The walk of a query is deep if it can go down to any level of the document: it has a `..`, many segments, or a
-/// relative query in a filter that takes a walk. Any other is shallow, and goes down one level for each segment.
+/// A query is deep if its walk can reach any level of the document: it has a `..`, many segments, or a filter with a
+/// relative query that takes a walk. Any other query is shallow, and its walk goes down one level for each segment.
 #[derive(Clone, Copy)]
 pub struct RootNesting {
-    /// The number of deep ones.
+    /// The number of deep queries.
     deep: usize,
-    /// The levels of the shallow ones together, with what each takes beside the document.
+    /// The levels of the shallow queries together, with what each takes beside the document.
     shallow: usize,
-    /// The levels of those that are on the stack together where early queries are evaluated before the walk.
+    /// The levels of the queries that are on the stack together if some queries are evaluated before the walk.
     pending: usize,
 }
 
 impl RootNesting {
-    /// Of no query.
+    /// The nesting of no query.
     pub const NONE: RootNesting = RootNesting {
         deep: 0,
         shallow: 0,
         pending: 0,
     };
 
-    /// The greater of each of the numbers.
+    /// Returns the greater of each of the numbers.
     fn max(self, other: RootNesting) -> RootNesting {
         RootNesting {
             deep: self.deep.max(other.deep),
@@ -69,14 +69,14 @@ impl RootNesting {
         }
     }
 
-    /// Returns how many levels a document may have where all of these queries, and the one around them, can be on the
-    /// stack together.
+    /// Returns the number of levels that a document may have so that all of these queries, and the query around them,
+    /// fit on the stack together.
     pub fn levels(self) -> usize {
         let share = MOST_LEVELS.saturating_sub(self.shallow) / self.deep.saturating_add(1);
         share.saturating_sub(LEVELS_BESIDE).max(LEAST_LEVELS)
     }
 
-    /// With a deep query around.
+    /// Returns the nesting with a deep query around it.
     fn in_deep(self) -> RootNesting {
         RootNesting {
             deep: self.deep.saturating_add(1),
@@ -85,7 +85,7 @@ impl RootNesting {
         }
     }
 
-    /// With a shallow query around, of a number of segments.
+    /// Returns the nesting with a shallow query around it, of `segments` segments.
     fn in_shallow(self, segments: usize) -> RootNesting {
         let levels = segments.saturating_add(LEVELS_BESIDE);
         RootNesting {
@@ -95,8 +95,8 @@ impl RootNesting {
         }
     }
 
-    /// Returns when the outermost query is evaluated. It is early where it would leave no room on the stack for one
-    /// more deep query around it. The queries around an early one begin to count anew.
+    /// Returns when the outermost query is evaluated. It is evaluated before the walk if it leaves no room on the stack
+    /// for one more deep query around it. The count then starts again for the queries around it.
     fn outermost(&mut self) -> When {
         if self.pending.saturating_add(DEEP) <= MOST_LEVELS {
             return When::OnDemand;
@@ -109,13 +109,13 @@ impl RootNesting {
 /// When a query from the root is evaluated.
 #[derive(Clone, Copy)]
 pub enum When {
-    /// When it is first asked.
+    /// When it is first needed.
     OnDemand,
     /// Before the walk, if the document is deep.
     BeforeWalk,
 }
 
-/// Whether a query of these segments is deep, apart from its filters.
+/// Returns whether a query of these segments is deep, apart from its filters.
 fn is_deep(segments: &[tree::Segment]) -> bool {
     if segments.len() > FEW_SEGMENTS {
         return true;
@@ -128,19 +128,20 @@ fn is_deep(segments: &[tree::Segment]) -> bool {
     false
 }
 
-/// What was met of a part of a query.
+/// What was met in a part of a query.
 #[derive(Clone, Copy)]
 pub struct Scope {
-    /// The greatest nesting of the constants.
+    /// The greatest nesting of its constants.
     pub nesting: RootNesting,
-    /// Whether no `@` of the filter around was met; that of a filter inside a query from the root does not count.
+    /// Whether no `@` of the filter around was met. An `@` in a filter of a query from the root inside it does not
+    /// count.
     pub rooted: bool,
     /// Whether a relative query was met that takes a walk.
     pub walks: bool,
 }
 
 impl Scope {
-    /// Nothing yet.
+    /// Nothing was met.
     pub const NOTHING: Scope = Scope {
         nesting: RootNesting::NONE,
         rooted: true,
@@ -149,28 +150,28 @@ impl Scope {
 }
 
 impl<'q> Maker<'q> {
-    /// Begins a part: what is met from now on stands in it. The result is what was met around it.
+    /// Begins an expression, which collects what is met from now on. Returns what was met around it.
     pub fn begin(&mut self) -> Scope
         ensures { IsBeside self.new self.old result.rooted }
     {
         mem::replace(&mut self.scope, Scope::NOTHING)
     }
 
-    /// Meets an `@`.
+    /// Records an `@`.
     pub fn meet_current(&mut self)
         ensures { IsBeside self.old self.new false }
     {
         self.scope.rooted = false;
     }
 
-    /// Meets a relative query that takes a walk.
+    /// Records a relative query that takes a walk.
     pub fn meet_walk(&mut self)
         ensures { IsBeside self.old self.new self.old.scope.rooted }
     {
         self.scope.walks = true;
     }
 
-    /// Ends a part that is no query. The result tells whether it has no `@`.
+    /// Ends an expression that is not a query. Returns whether it has no `@`.
     pub fn end(&mut self, around: Scope) -> bool
         ensures beside { IsBeside self.old self.new (around.rooted && self.old.scope.rooted) }
         ensures rooted { result ≡ self.old.scope.rooted }
@@ -184,7 +185,7 @@ impl<'q> Maker<'q> {
         part.rooted
     }
 
-    /// Ends a query from the root, each `@` of which is in a filter of its own. Returns when it is evaluated.
+    /// Ends a query from the root. Each `@` in it belongs to a filter of its own. Returns when it is evaluated.
     pub fn end_query(&mut self, around: Scope, segments: &[tree::Segment]) -> When
         ensures { IsBeside self.old self.new around.rooted }
     {
@@ -203,7 +204,7 @@ impl<'q> Maker<'q> {
         when
     }
 
-    /// The number of one more constant.
+    /// Adds a constant, and returns its number.
     pub fn number(&mut self, constant: Constant) -> Parsed<usize>
         ensures numbered { IfOk result (IsNumbered self.old self.new constant) }
         ensures memory { MemoryAlone result }
@@ -213,7 +214,7 @@ impl<'q> Maker<'q> {
         Ok(number)
     }
 
-    /// A comparison that was begun: the number of the constant, where it has no `@`.
+    /// Ends a comparison. If it has no `@`, it becomes a constant, and the filter is its number.
     pub fn compare(
         &mut self,
         operator: Operator,
@@ -232,17 +233,17 @@ impl<'q> Maker<'q> {
     }
 }
 
-/// The patterns of a query that have a number. Equal ones have the same.
+/// The patterns of a query that have a number. Equal patterns have the same number.
 #[derive(Drop)]
 pub struct PatternTable<'q> {
-    /// By whether the entire text has to match, and the pattern.
+    /// The numbers, by whether the entire text has to match, and by the pattern.
     known: BTreeMap<(bool, &'q str), usize>,
-    /// What they weigh together.
+    /// The sum of the weights of these patterns.
     weight: usize,
 }
 
 impl<'q> PatternTable<'q> {
-    /// None yet.
+    /// Returns an empty table.
     pub fn new(alloc: Global) -> Self {
         PatternTable {
             known: BTreeMap::new(alloc),
@@ -250,12 +251,13 @@ impl<'q> PatternTable<'q> {
         }
     }
 
-    /// How many there are.
+    /// Returns the number of patterns in the table.
     pub fn count(&self) -> usize {
         self.known.len()
     }
 
-    /// The number of a pattern. One that would bring their weights above [`MOST_WEIGHT`] gets none.
+    /// Returns the number of a pattern. A pattern gets no number if the sum of the weights would be above
+    /// [`MOST_WEIGHT`].
     fn number(
         &mut self,
         alloc: Global,
@@ -277,7 +279,7 @@ impl<'q> PatternTable<'q> {
 }
 
 impl<'q> Maker<'q> {
-    /// A literal that is asked as a pattern.
+    /// Makes a literal that is used as a pattern.
     pub fn literal_pattern(&mut self, literal: &'q tree::Literal, extent: MatchKind) -> Parsed<Expr>
         ensures made { IfOk result (λ p. Made argument_is_rooted self.old self.new (λ constants. plan.expr_view constants p Single)
             (syntax.literal_argument (tree.literal_view literal.now))) }
@@ -292,7 +294,7 @@ impl<'q> Maker<'q> {
         }
     }
 
-    /// The number of a pattern, if it has one.
+    /// Returns the number of a pattern, if it has one.
     fn pattern_number(&mut self, pattern: &'q str, extent: MatchKind) -> Parsed<Option<usize>>
         ensures beside { OnOk result (IsBeside self.old self.new self.old.scope.rooted) }
         ensures memory { MemoryAlone result }

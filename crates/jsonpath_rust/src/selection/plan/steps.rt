@@ -1,4 +1,4 @@
-//! Queries from the current node that are looked up: segments of one name or one index each, and steps.
+//! Recognizes the queries from the current node that are looked up: each of their segments is one name or one index.
 ghost use Rattle.std.specs.Prelude.{◌≡◌, IfOk, IfSome, IsTrue, map};
 ghost use Rattle.jsonpath_base.specs.Prelude.Documents.{MemoryAlone, one, relative, segment_view, segments_of, step_view, test_argument, wildcard};
 ghost use Rattle.jsonpath_rust.specs.Prelude.Selection.{Constants};
@@ -11,8 +11,8 @@ use jsonpath_parser::model::SingularQuerySegment;
 use jsonpath_parser::{are_steps, model as tree};
 use std::alloc::Global;
 
-/// The part that these segments from the current node are where they need no walk: names and indexes, or these and then
-/// `[*]` where its children are counted.
+/// Returns the expression of these segments from the current node, if they need no walk: names and indexes, or these
+/// and then `[*]` if its children are counted.
 pub fn looked_up(alloc: Global, segments: &[tree::Segment], demand: Demand) -> Parsed<Option<Expr>>
     ensures same { (constants : Constants) → IfOk result (λ o. IfSome o (λ p. plan.expr_view constants p demand
         ≡ test_argument (relative (segments_of (map segment_view segments.now))))) }
@@ -30,7 +30,7 @@ pub fn looked_up(alloc: Global, segments: &[tree::Segment], demand: Demand) -> P
     }
 }
 
-/// The steps of these segments, where each is one name or one index.
+/// Returns the steps of these segments, if each is one name or one index.
 fn steps_of(alloc: Global, segments: &[tree::Segment]) -> Parsed<Option<Vec<SingularQuerySegment>>>
     ensures same { IfOk result (λ o. IfSome o (λ v. map step_view v.items ≡ map segment_view segments.now)) }
     ensures memory { MemoryAlone result }
@@ -48,7 +48,7 @@ fn steps_of(alloc: Global, segments: &[tree::Segment]) -> Parsed<Option<Vec<Sing
     Ok(Some(steps))
 }
 
-/// The steps before `[*]`, where these segments are names and indexes and then `[*]`.
+/// Returns the steps before `[*]`, if these segments are names and indexes and then `[*]`.
 fn steps_to_children(
     alloc: Global,
     segments: &[tree::Segment],
@@ -66,7 +66,7 @@ fn steps_to_children(
     Ok(None)
 }
 
-/// Whether a segment is `[*]`.
+/// Returns whether a segment is `[*]`.
 fn is_wildcard(segment: &tree::Segment) -> bool
     ensures { IsTrue result → segment_view segment.now ≡ one wildcard }
 {
@@ -76,7 +76,7 @@ fn is_wildcard(segment: &tree::Segment) -> bool
     }
 }
 
-/// The step of a segment, where it is one name or one index.
+/// Returns the step of a segment, if it is one name or one index.
 fn step_of(alloc: Global, segment: &tree::Segment) -> Parsed<Option<SingularQuerySegment>>
     ensures same { IfOk result (λ o. IfSome o (λ s. step_view s ≡ segment_view segment.now)) }
     ensures memory { MemoryAlone result }
@@ -93,7 +93,7 @@ fn step_of(alloc: Global, segment: &tree::Segment) -> Parsed<Option<SingularQuer
     }
 }
 
-/// The same steps.
+/// Returns a copy of these steps.
 pub fn steps_again(
     alloc: Global,
     steps: &[SingularQuerySegment],
@@ -108,7 +108,7 @@ pub fn steps_again(
     Ok(copies)
 }
 
-/// The segments of these steps.
+/// Returns the segments of these steps.
 pub fn segments_of_steps(alloc: Global, steps: &[SingularQuerySegment]) -> Parsed<Vec<Segment>>
     ensures same { (constants : Constants) → IfOk result (λ v. map (plan.segment_view constants) v.items ≡ map step_view steps.now) }
     ensures memory { MemoryAlone result }
@@ -120,7 +120,7 @@ pub fn segments_of_steps(alloc: Global, steps: &[SingularQuerySegment]) -> Parse
     Ok(segments)
 }
 
-/// The segment of a step.
+/// Returns the segment of a step.
 #[tactic(auto, using(crate::proofs::laws::selection::PlanEquations::plan_equations))]
 fn segment_of(alloc: Global, step: &SingularQuerySegment) -> Parsed<Segment>
     ensures same { (constants : Constants) → IfOk result (λ g. plan.segment_view constants g ≡ step_view step.now) }

@@ -1,4 +1,4 @@
-//! What functions make of the data of their arguments (RFC 9535, 2.4.4 to 2.4.8).
+//! The functions, on the data of their arguments (RFC 9535, 2.4.4 to 2.4.8).
 ghost use Rattle.std.specs.Prelude.{◌++◌, ◌≡◌, IfErr, IfOk, OnOk, option_map, Some, string_bytes};
 ghost use Rattle.jsonpath_base.specs.Prelude.Documents.{is_entire, IsPattern, truth};
 ghost use Rattle.jsonpath_rust.specs.Prelude.Documents.{arg_trees, Memory, tree_of};
@@ -18,7 +18,7 @@ use jsonpath_base::MatchKind;
 use jsonpath_base::engine::PatternKey;
 use std::alloc::Global;
 
-/// What `length` returns.
+/// Returns what `length` returns.
 pub fn length_data<'a, T: Queryable>(alloc: Global, given: WholeData<'a, T>) -> Returned<'a, T>
     ensures value { IfOk result (λ d. content_at d ≡ length_content (content_at given.entry)) }
     ensures memory { IfErr result (λ h. h ≡ Memory) }
@@ -32,7 +32,7 @@ pub fn length_data<'a, T: Queryable>(alloc: Global, given: WholeData<'a, T>) -> 
     }
 }
 
-/// The length of a value; nothing where it has none.
+/// Returns the length of a value; nothing where it has none.
 fn value_length<'a, T: Queryable>(alloc: Global, of: WholeRef<'_, T>) -> Returned<'a, T>
     ensures value { IfOk result (λ d. content_at d ≡ optional (functions.length_of (Some (tree_of of.entry)))) }
     ensures memory { IfErr result (λ h. h ≡ Memory) }
@@ -43,7 +43,7 @@ fn value_length<'a, T: Queryable>(alloc: Global, of: WholeRef<'_, T>) -> Returne
     }
 }
 
-/// What `count` returns.
+/// Returns what `count` returns.
 pub fn node_count<'a, T: Queryable>(alloc: Global, given: WholeData<'a, T>) -> Returned<'a, T>
     ensures value { IfOk result (λ d. content_at d ≡ count_content (content_at given.entry)) }
     ensures memory { IfErr result (λ h. h ≡ Memory) }
@@ -57,7 +57,7 @@ pub fn node_count<'a, T: Queryable>(alloc: Global, given: WholeData<'a, T>) -> R
     }
 }
 
-/// What `value` returns.
+/// Returns what `value` returns.
 pub fn only_value<'a, T: Queryable>(given: WholeData<'a, T>) -> WholeData<'a, T>
     ensures { content_at result ≡ value_content (content_at given.entry) }
 {
@@ -79,7 +79,7 @@ pub fn only_value<'a, T: Queryable>(given: WholeData<'a, T>) -> WholeData<'a, T>
     }
 }
 
-/// What `match` returns of the entire text, or `search` of its substrings.
+/// Returns whether a pattern matches: the entire text for `match`, a substring for `search`.
 pub fn found_data<'a, T: Queryable>(
     alloc: Global,
     text: &WholeData<'a, T>,
@@ -118,7 +118,7 @@ fn is_matched<T: Queryable>(
     }
 }
 
-/// What a custom function returns.
+/// Returns what a custom function returns.
 pub fn custom_data<'a, T: Queryable>(
     alloc: Global,
     name: &String,
@@ -131,7 +131,7 @@ pub fn custom_data<'a, T: Queryable>(
     Ok(WholeData { content })
 }
 
-/// Adds what a result stands for to the arguments of a custom function: its value, or the values of its nodes.
+/// Adds the value of a result, or the values of its nodes, to the arguments of a custom function.
 pub fn push_values<'a, T: Queryable>(
     values: &mut Args<'a, T>,
     answer: WholeData<'a, T>,

@@ -1,4 +1,4 @@
-//! How the data of two states compares.
+//! The comparison of the data of two states.
 ghost use Rattle.std.specs.Prelude.{◌≡◌, All, IsTrue, map, Some};
 ghost use Rattle.jsonpath_base.specs.Prelude.Documents.{operator_view};
 ghost use Rattle.jsonpath_rust.specs.Prelude.Documents.{tree_of};
@@ -13,7 +13,7 @@ use crate::states::held::WholeData;
 use jsonpath_base::documents::state::{Data, Pointer, are_same};
 use jsonpath_parser::model::Operator;
 
-/// Whether the comparison holds.
+/// Returns whether the operator holds between the data.
 pub fn compares<'a, T: Queryable>(
     operator: Operator,
     left: &WholeData<'a, T>,
@@ -49,7 +49,7 @@ fn are_equal<'a, T: Queryable>(left: &WholeData<'a, T>, right: &WholeData<'a, T>
     }
 }
 
-/// Whether it is or points to a value that is the same as this one.
+/// Returns whether the data is a value that is the same as this one, or points to one.
 fn is_same_value<'a, T: Queryable>(given: &WholeData<'a, T>, other: WholeRef<'_, T>) -> bool
     ensures { result ≡ values_same (plain (content_at given.now)) (Some (tree_of other.entry)) }
 {
@@ -59,7 +59,7 @@ fn is_same_value<'a, T: Queryable>(given: &WholeData<'a, T>, other: WholeRef<'_,
     }
 }
 
-/// Whether the value is a list of the values of these pointers.
+/// Returns whether the value is a list of the values of these pointers.
 fn are_elements<'a, T: Queryable>(list: WholeRef<'_, T>, nodes: &[Pointer<'a, T>]) -> bool
     requires { PointersAreWhole T.is_whole nodes.now }
     ensures { result ≡ lists_targets (tree_of list.entry) (targets_of T.tree nodes.now) }
@@ -86,7 +86,7 @@ fn are_same_values<'a, T: Queryable>(items: &[T], nodes: &[Pointer<'a, T>]) -> b
     true
 }
 
-/// Whether both are or point to numbers or both to texts, and the left is less.
+/// Returns whether both are numbers or both are texts, or point to such values, and the left one is less.
 fn is_less<'a, T: Queryable>(left: &WholeData<'a, T>, right: &WholeData<'a, T>) -> bool
     ensures { result ≡ is_content_below (content_at left.now) (content_at right.now) }
 {

@@ -1,4 +1,4 @@
-//! Filters, comparisons, functions and their arguments, at any state.
+//! Evaluates filters, comparisons, functions and their arguments, on any state.
 ghost use Rattle.std.specs.Prelude.{◌≡◌, IfErr, IfOk};
 ghost use Rattle.jsonpath_base.specs.Prelude.Documents.{argument_patterns, argument_view, arguments_in, arguments_patterns, atom_view, call_patterns, call_view, comparable_view, comparison_view, filter_patterns, filter_view, filters_in, filters_patterns, test_patterns, test_view, truth};
 ghost use Rattle.jsonpath_rust.specs.Prelude.Documents.{arg_trees};
@@ -21,7 +21,7 @@ use jsonpath_parser::model::{
 };
 
 impl<'a, T: Queryable> Evaluation<'a, T> {
-    /// The truth of a logical expression at a state.
+    /// Returns whether a logical expression holds at a state.
     #[cycle(evaluate)]
     pub fn holds(&self, filter: &Filter, given: &WholeData<'a, T>) -> WalkResult<bool>
         ensures value { IfOk result (λ b. b ≡ holds_at (filter_view filter.now) (document self.now) (content_at given.now)) }
@@ -34,7 +34,7 @@ impl<'a, T: Queryable> Evaluation<'a, T> {
         }
     }
 
-    /// Whether some part holds.
+    /// Returns whether some operand of `||` holds.
     #[cycle(evaluate)]
     fn some_holds(&self, parts: &[Filter], given: &WholeData<'a, T>) -> WalkResult<bool>
         ensures value { IfOk result (λ b. b ≡ some_holds_at (filters_in parts.now) (document self.now) (content_at given.now)) }
@@ -48,7 +48,7 @@ impl<'a, T: Queryable> Evaluation<'a, T> {
         Ok(false)
     }
 
-    /// Whether every part holds.
+    /// Returns whether every operand of `&&` holds.
     #[cycle(evaluate)]
     fn each_holds(&self, parts: &[Filter], given: &WholeData<'a, T>) -> WalkResult<bool>
         ensures value { IfOk result (λ b. b ≡ each_holds_at (filters_in parts.now) (document self.now) (content_at given.now)) }
@@ -62,7 +62,7 @@ impl<'a, T: Queryable> Evaluation<'a, T> {
         Ok(true)
     }
 
-    /// A basic expression.
+    /// Returns what a basic expression returns.
     #[cycle(evaluate)]
     pub fn atom_data(&self, atom: &FilterAtom, given: &WholeData<'a, T>) -> Returned<'a, T>
         ensures value { IfOk result (λ d. content_at d ≡ basic_content (atom_view atom.now) (document self.now) (content_at given.now)) }
@@ -84,7 +84,7 @@ impl<'a, T: Queryable> Evaluation<'a, T> {
         }
     }
 
-    /// Whether a comparison holds.
+    /// Returns whether a comparison holds.
     #[cycle(evaluate)]
     pub fn comparison_holds(
         &self,
@@ -102,7 +102,7 @@ impl<'a, T: Queryable> Evaluation<'a, T> {
         Ok(compares(operator, &left, &right))
     }
 
-    /// The truth of a comparison.
+    /// Returns whether a comparison holds, as data.
     pub fn comparison_data(
         &self,
         comparison: &Comparison,
@@ -118,7 +118,7 @@ impl<'a, T: Queryable> Evaluation<'a, T> {
         truth_data(self.alloc, truth)
     }
 
-    /// A side of a comparison.
+    /// Returns the side of a comparison.
     #[cycle(evaluate)]
     pub fn comparable_data(
         &self,
@@ -139,7 +139,7 @@ impl<'a, T: Queryable> Evaluation<'a, T> {
         }
     }
 
-    /// What a test returns.
+    /// Returns what a test returns.
     #[cycle(evaluate)]
     pub fn test_data(&self, test: &Test, given: &WholeData<'a, T>) -> Returned<'a, T>
         ensures value { IfOk result (λ d. content_at d ≡ test_content (test_view test.now) (document self.now) (content_at given.now)) }
@@ -158,7 +158,7 @@ impl<'a, T: Queryable> Evaluation<'a, T> {
         }
     }
 
-    /// What a function returns.
+    /// Returns what a function returns.
     #[cycle(evaluate)]
     pub fn call_data(&self, function: &TestFunction, given: &WholeData<'a, T>) -> Returned<'a, T>
         ensures value { IfOk result (λ d. content_at d ≡ call_content (call_view function.now) (document self.now) (content_at given.now)) }
@@ -185,7 +185,7 @@ impl<'a, T: Queryable> Evaluation<'a, T> {
         }
     }
 
-    /// What the arguments of a custom function stand for.
+    /// Returns the values of the arguments of a custom function.
     #[cycle(evaluate)]
     fn arguments(&self, args: &[FnArg], given: &WholeData<'a, T>) -> WalkResult<Args<'a, T>>
         ensures value { IfOk result (λ v. arg_trees v
@@ -200,7 +200,7 @@ impl<'a, T: Queryable> Evaluation<'a, T> {
         Ok(values)
     }
 
-    /// What an argument returns.
+    /// Returns what an argument returns.
     #[cycle(evaluate)]
     pub fn argument_data(&self, arg: &FnArg, given: &WholeData<'a, T>) -> Returned<'a, T>
         ensures value { IfOk result (λ d. content_at d

@@ -1,4 +1,4 @@
-//! What is found from a pointer: nodes below its value, each under the pointer's path and the steps to it.
+//! The nodes below the value of a pointer, each with the pointer's path and the steps to it.
 ghost use Rattle.std.specs.Prelude.{◌++◌, ◌≡◌, [], All, IfOk, IsTrue, map, OnOk, option_map};
 ghost use Rattle.jsonpath_base.specs.Prelude.Documents.{below, element_nodes, member_nodes, MemoryAlone};
 ghost use Rattle.jsonpath_rust.specs.Prelude.Documents.{tree_of};
@@ -14,7 +14,7 @@ use jsonpath_base::picked;
 use std::alloc::Global;
 
 impl<'p, 'a, T: Queryable> WholePointerRef<'p, 'a, T> {
-    /// The member of that name.
+    /// Returns the member of that name.
     pub fn named(self, alloc: Global, key: &str) -> Queried<WholeData<'a, T>>
         ensures value { IfOk result (λ d. content_at d ≡ named_from key.now (target_at self.entry)) }
         ensures memory { MemoryAlone result }
@@ -25,7 +25,7 @@ impl<'p, 'a, T: Queryable> WholePointerRef<'p, 'a, T> {
         }
     }
 
-    /// The element of that index.
+    /// Returns the element of that index.
     pub fn indexed(self, alloc: Global, index: i64) -> Queried<WholeData<'a, T>>
         ensures value { IfOk result (λ d. content_at d ≡ indexed_from index (target_at self.entry)) }
         ensures memory { MemoryAlone result }
@@ -36,7 +36,7 @@ impl<'p, 'a, T: Queryable> WholePointerRef<'p, 'a, T> {
         }
     }
 
-    /// All children.
+    /// Returns all children.
     pub fn wildcard(self, alloc: Global) -> Queried<WholeData<'a, T>>
         ensures value { IfOk result (λ d. content_at d ≡ children_from (target_at self.entry)) }
         ensures memory { MemoryAlone result }
@@ -53,7 +53,7 @@ impl<'p, 'a, T: Queryable> WholePointerRef<'p, 'a, T> {
         }
     }
 
-    /// The elements that a slice picks (RFC 9535, 2.3.4).
+    /// Returns the elements that a slice picks (RFC 9535, 2.3.4).
     pub fn sliced(
         self,
         alloc: Global,
@@ -78,7 +78,7 @@ impl<'p, 'a, T: Queryable> WholePointerRef<'p, 'a, T> {
         }
     }
 
-    /// The lists and objects there and below.
+    /// Returns the value and all values below it that are lists or objects.
     pub fn parents(self, alloc: Global) -> Queried<WholeData<'a, T>>
         ensures value { IfOk result (λ d. content_at d ≡ parents_from (target_at self.entry)) }
         ensures memory { MemoryAlone result }
@@ -107,7 +107,7 @@ impl<'p, 'a, T: Queryable> WholePointerRef<'p, 'a, T> {
         Ok(())
     }
 
-    /// The children of a list or an object, in walk order; None for what is neither.
+    /// Returns the children of a list or an object, in walk order; None for any other value.
     pub fn parts(self, alloc: Global) -> Queried<Option<WholePointers<'a, T>>>
         ensures value { IfOk result (λ o. option_map targets_at o ≡ parts_from (target_at self.entry)) }
         ensures memory { MemoryAlone result }
@@ -150,7 +150,7 @@ impl<'p, 'a, T: Queryable> WholePointerRef<'p, 'a, T> {
         Ok(found)
     }
 
-    /// The pointer to a member.
+    /// Returns the pointer to a member.
     fn below_name(
         self,
         alloc: Global,
@@ -167,7 +167,7 @@ impl<'p, 'a, T: Queryable> WholePointerRef<'p, 'a, T> {
         Ok(WholePointer { pointer })
     }
 
-    /// The pointer to an element.
+    /// Returns the pointer to an element.
     fn below_index(
         self,
         alloc: Global,

@@ -1,4 +1,4 @@
-//! Segments and selectors, on any state: each on the result before, node by node.
+//! Evaluates segments and selectors on any state: each on the result before, node by node.
 ghost use Rattle.std.specs.Prelude.{◌≡◌, IfErr, IfOk};
 ghost use Rattle.jsonpath_base.specs.Prelude.Documents.{filter_patterns, filter_view, segment_patterns, segment_view, segments_in, segments_patterns, selector_patterns, selector_view, selectors_in, selectors_patterns};
 ghost use Rattle.jsonpath_rust.specs.Prelude.States.{content_at, document, HaltsBelow, holds_at, joined_from, kept_from, mapped, nothing, part_content, part_patterns, ref, segment_content, segments_content, selector_content, several_content, target_at};
@@ -17,16 +17,16 @@ pub enum NodeOperation<'s> {
     Wildcard,
     Index(i64),
     Slice(Option<i64>, Option<i64>, Option<i64>),
-    /// The lists and objects there and below.
+    /// Returns the node and all nodes below it that are lists or objects.
     Parents,
-    /// The children at which the filter holds.
+    /// Returns the children at which the filter holds.
     Kept(&'s Filter),
-    /// What each of the selectors picks.
+    /// Returns what each of the selectors picks.
     Joined(&'s [Selector]),
 }
 
 impl<'a, T: Queryable> Evaluation<'a, T> {
-    /// The segments, each on the result before.
+    /// Applies the segments, each to the result before.
     #[cycle(evaluate)]
     pub fn segments_data(&self, segments: &[Segment], given: WholeData<'a, T>) -> Returned<'a, T>
         ensures value { IfOk result (λ d. content_at d
@@ -42,7 +42,7 @@ impl<'a, T: Queryable> Evaluation<'a, T> {
         Ok(answer)
     }
 
-    /// A segment.
+    /// Applies a segment.
     #[cycle(evaluate)]
     pub fn segment_data(&self, segment: &Segment, given: WholeData<'a, T>) -> Returned<'a, T>
         ensures value { IfOk result (λ d. content_at d
@@ -61,7 +61,7 @@ impl<'a, T: Queryable> Evaluation<'a, T> {
         }
     }
 
-    /// Several selectors, node by node; none of them is nothing on every state.
+    /// Applies several selectors, node by node. No selector at all returns nothing on every state.
     #[cycle(evaluate)]
     fn several_data(&self, selectors: &[Selector], given: WholeData<'a, T>) -> Returned<'a, T>
         ensures value { IfOk result (λ d. content_at d
@@ -76,7 +76,7 @@ impl<'a, T: Queryable> Evaluation<'a, T> {
         }
     }
 
-    /// A selector.
+    /// Applies a selector.
     #[cycle(evaluate)]
     pub fn selector_data(&self, selector: &Selector, given: WholeData<'a, T>) -> Returned<'a, T>
         ensures value { IfOk result (λ d. content_at d
@@ -96,7 +96,7 @@ impl<'a, T: Queryable> Evaluation<'a, T> {
         }
     }
 
-    /// The part at each node, as `flat_map` joins them.
+    /// Applies the operation at each node, and joins the results as `flat_map` does.
     #[cycle(evaluate)]
     pub fn each_target(&self, part: NodeOperation<'_>, given: WholeData<'a, T>) -> Returned<'a, T>
         ensures value { IfOk result (λ d. content_at d ≡ mapped (part_content part.entry (document self.now)) (content_at given.entry)) }
@@ -118,7 +118,7 @@ impl<'a, T: Queryable> Evaluation<'a, T> {
         }
     }
 
-    /// The part at a node.
+    /// Applies the operation at a node.
     #[cycle(evaluate)]
     fn at_target(
         &self,
@@ -141,7 +141,7 @@ impl<'a, T: Queryable> Evaluation<'a, T> {
         }
     }
 
-    /// The children at which the filter holds.
+    /// Returns the children at which the filter holds.
     #[cycle(evaluate)]
     fn matching_children(
         &self,
@@ -174,7 +174,7 @@ impl<'a, T: Queryable> Evaluation<'a, T> {
         }
     }
 
-    /// What each of the selectors picks at a node, one behind the other.
+    /// Returns what each of the selectors picks at a node, one after the other.
     #[cycle(evaluate)]
     fn joined(&self, selectors: &[Selector], from: WholePointerRef<'_, 'a, T>) -> Returned<'a, T>
         ensures value { IfOk result (λ d. content_at d

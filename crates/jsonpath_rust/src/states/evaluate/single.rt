@@ -1,4 +1,4 @@
-//! Data of one value: truths, counts, literals, and the value that data is or points to.
+//! Data of one value: truths, counts, literals, and the value of data.
 ghost use Rattle.std.specs.Prelude.{◌≡◌, IfErr, IfOk, IfSome, IsTrue, option_map};
 ghost use Rattle.jsonpath_base.specs.Prelude.Documents.{count_value, literal_tree, literal_view, truth};
 ghost use Rattle.jsonpath_rust.specs.Prelude.Documents.{Memory, tree_of};
@@ -13,7 +13,7 @@ use crate::states::state::Data;
 use jsonpath_parser::model::Literal;
 use std::alloc::Global;
 
-/// A truth.
+/// Returns `true` or `false` as data.
 pub fn truth_data<'a, T: Queryable>(alloc: Global, b: bool) -> Returned<'a, T>
     ensures value { IfOk result (λ d. content_at d ≡ value (truth b)) }
     ensures memory { IfErr result (λ h. h ≡ Memory) }
@@ -22,7 +22,7 @@ pub fn truth_data<'a, T: Queryable>(alloc: Global, b: bool) -> Returned<'a, T>
     Ok(WholeData { content })
 }
 
-/// A count.
+/// Returns a count as data.
 pub fn count_data<'a, T: Queryable>(alloc: Global, count: usize) -> Returned<'a, T>
     ensures value { IfOk result (λ d. content_at d ≡ value (count_value count)) }
     ensures memory { IfErr result (λ h. h ≡ Memory) }
@@ -31,7 +31,7 @@ pub fn count_data<'a, T: Queryable>(alloc: Global, count: usize) -> Returned<'a,
     Ok(WholeData { content })
 }
 
-/// A literal.
+/// Returns a literal as data.
 pub fn literal_data<'a, T: Queryable>(alloc: Global, literal: &Literal) -> Returned<'a, T>
     ensures value { IfOk result (λ d. content_at d ≡ value (literal_tree (literal_view literal.now))) }
     ensures memory { IfErr result (λ h. h ≡ Memory) }
@@ -40,7 +40,7 @@ pub fn literal_data<'a, T: Queryable>(alloc: Global, literal: &Literal) -> Retur
     Ok(WholeData { content })
 }
 
-/// The value that it is or points to.
+/// Returns the value that the data is, or points to.
 pub fn plain_value<'d, 'a, T: Queryable>(given: &'d WholeData<'a, T>) -> Option<WholeRef<'d, T>>
     ensures { option_map tree_of result ≡ plain (content_at given.now) }
 {
@@ -50,7 +50,7 @@ pub fn plain_value<'d, 'a, T: Queryable>(given: &'d WholeData<'a, T>) -> Option<
     }
 }
 
-/// The same, as a plain borrow.
+/// Borrows that value, as a plain reference.
 fn cached_ref<'d, 'a, T: Queryable>(given: &'d WholeData<'a, T>) -> Option<&'d T>
     ensures value { option_map (λ v. T.tree v.now) result ≡ plain (content_at given.now) }
     ensures whole { IfSome result (λ v. IsTrue (T.is_whole v.now)) }

@@ -1,5 +1,5 @@
-//! Singular queries, from each node of a state or from the root (RFC 9535, 2.3.5.1). No pattern stands in them, so they
-//! halt for want of memory alone.
+//! Evaluates singular queries, from each node of a state or from the root (RFC 9535, 2.3.5.1). They have no pattern, so
+//! they fail only where memory runs out.
 ghost use Rattle.std.specs.Prelude.{◌≡◌, IfErr, IfOk, map};
 ghost use Rattle.jsonpath_base.specs.Prelude.Documents.{segments_of, singular_view, step_view};
 ghost use Rattle.jsonpath_rust.specs.Prelude.Documents.{Memory};
@@ -12,7 +12,7 @@ use crate::states::held::WholeData;
 use jsonpath_parser::model::{SingularQuery, SingularQuerySegment};
 
 impl<'a, T: Queryable> Evaluation<'a, T> {
-    /// A query of at most one node, from each node or from the root.
+    /// Returns what a query of at most one node selects, from each node or from the root.
     #[cycle(evaluate)]
     pub fn singular_data(&self, query: &SingularQuery, given: &WholeData<'a, T>) -> Returned<'a, T>
         ensures value { IfOk result (λ d. content_at d ≡ test_content (singular_view query.now) (document self.now) (content_at given.now)) }
@@ -30,7 +30,7 @@ impl<'a, T: Queryable> Evaluation<'a, T> {
         }
     }
 
-    /// The steps, each on the result before.
+    /// Applies the steps, each to the result before.
     #[cycle(evaluate)]
     pub fn steps_data(
         &self,
@@ -49,7 +49,7 @@ impl<'a, T: Queryable> Evaluation<'a, T> {
         Ok(answer)
     }
 
-    /// A step.
+    /// Applies a step.
     #[cycle(evaluate)]
     pub fn step_data(&self, step: &SingularQuerySegment, given: WholeData<'a, T>) -> Returned<'a, T>
         ensures value { IfOk result (λ d. content_at d ≡ segment_content (step_view step.now) (document self.now) (content_at given.entry)) }

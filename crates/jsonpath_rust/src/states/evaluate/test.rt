@@ -1,4 +1,4 @@
-//! What tests make of data (RFC 9535, 2.3.5.2.1).
+//! The result of a test, from its data (RFC 9535, 2.3.5.2.1).
 ghost use Rattle.std.specs.Prelude.{◌++◌, ◌∷◌, ◌≡◌, [], cond, IfErr, IfOk, OnOk};
 ghost use Rattle.jsonpath_base.specs.Prelude.Documents.{is_truth_call, MemoryAlone, test_view};
 ghost use Rattle.jsonpath_rust.specs.Prelude.Documents.{Memory};
@@ -14,7 +14,7 @@ use crate::states::state::Data;
 use jsonpath_parser::model::Test;
 use std::alloc::Global;
 
-/// Whether it is a value of its own that is true.
+/// Returns whether it is the owned value `true`.
 pub fn is_true<'a, T: Queryable>(given: &WholeData<'a, T>) -> bool
     ensures { result ≡ is_truth (content_at given.now) }
 {
@@ -24,7 +24,7 @@ pub fn is_true<'a, T: Queryable>(given: &WholeData<'a, T>) -> bool
     }
 }
 
-/// Whether it has a node.
+/// Returns whether it has a node.
 fn has_target<'a, T: Queryable>(given: &WholeData<'a, T>) -> bool
     ensures { result ≡ process.has_target (targets (content_at given.now)) }
 {
@@ -35,8 +35,8 @@ fn has_target<'a, T: Queryable>(given: &WholeData<'a, T>) -> bool
     }
 }
 
-/// What a test in a filter returns: a call that returns a truth, that truth; else whether it exists. Both are turned
-/// round behind `!`.
+/// Returns what a test in a filter returns: for a call that returns a truth, that truth; else whether there is a
+/// result. Both are negated after `!`.
 pub fn test_answer<'a, T: Queryable>(
     alloc: Global,
     not: bool,
@@ -55,7 +55,7 @@ pub fn test_answer<'a, T: Queryable>(
     }
 }
 
-/// Adds this one to the pointers, if it is kept. It refuses by `OutOfMemory` alone.
+/// Adds this pointer if `is_kept`. It fails with `OutOfMemory` only.
 pub fn keep_if<'a, T: Queryable>(
     alloc: Global,
     is_kept: bool,

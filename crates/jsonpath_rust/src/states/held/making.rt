@@ -1,4 +1,4 @@
-//! How whole data and pointers are made of one another.
+//! Makes whole data and pointers of one another.
 ghost use Rattle.std.specs.Prelude.{◌++◌, ◌∷◌, ◌≡◌, [], IfOk, OnOk};
 ghost use Rattle.jsonpath_base.specs.Prelude.Documents.{MemoryAlone};
 ghost use Rattle.jsonpath_rust.specs.Prelude.Documents.{document_at, own_tree, tree_of};
@@ -12,7 +12,7 @@ use jsonpath_base::documents::state::{Data, root_of};
 use std::alloc::{AllocError, Global};
 
 impl<'a, T: Queryable> WholeData<'a, T> {
-    /// Nothing.
+    /// Returns nothing.
     pub fn nothing() -> Self
         ensures { content_at result ≡ nothing }
     {
@@ -20,7 +20,7 @@ impl<'a, T: Queryable> WholeData<'a, T> {
         WholeData { content }
     }
 
-    /// One node.
+    /// Returns the data of one node.
     pub fn node(one: WholePointer<'a, T>) -> Self
         ensures { content_at result ≡ ref (own_target one.entry) }
     {
@@ -28,7 +28,7 @@ impl<'a, T: Queryable> WholeData<'a, T> {
         WholeData { content }
     }
 
-    /// A value of its own.
+    /// Returns the data of an owned value.
     pub fn own(one: Whole<T>) -> Self
         ensures { content_at result ≡ value (own_tree one) }
     {
@@ -36,7 +36,7 @@ impl<'a, T: Queryable> WholeData<'a, T> {
         WholeData { content }
     }
 
-    /// Nodes, in this order.
+    /// Returns the data of these nodes, in this order.
     pub fn nodes(all: WholePointers<'a, T>) -> Self
         ensures { content_at result ≡ refs (targets_at all.entry) }
     {
@@ -44,7 +44,7 @@ impl<'a, T: Queryable> WholeData<'a, T> {
         WholeData { content }
     }
 
-    /// The document itself, at `$`. It refuses by `OutOfMemory` alone.
+    /// Returns the document itself, at `$`. It fails with `OutOfMemory` only.
     pub fn root(alloc: Global, root: WholeRef<'a, T>) -> Queried<Self>
         ensures value { IfOk result (λ d. content_at d ≡ root_content (document_at root.entry)) }
         ensures memory { MemoryAlone result }
@@ -53,7 +53,7 @@ impl<'a, T: Queryable> WholeData<'a, T> {
         Ok(WholeData { content })
     }
 
-    /// As [`Data::try_clone`].
+    /// Returns a copy, as [`Data::try_clone`].
     pub fn try_clone(&self, alloc: Global) -> Queried<Self>
         ensures value { IfOk result (λ d. content_at d ≡ content_at self.now) }
         ensures memory { MemoryAlone result }
@@ -62,7 +62,7 @@ impl<'a, T: Queryable> WholeData<'a, T> {
         Ok(WholeData { content })
     }
 
-    /// As [`Data::reduce`].
+    /// Joins both, as [`Data::reduce`].
     pub fn reduce(self, alloc: Global, other: WholeData<'a, T>) -> Queried<Self>
         ensures value { IfOk result (λ d. content_at d ≡ reduced (content_at self.entry) (content_at other.entry)) }
         ensures memory { MemoryAlone result }
@@ -73,7 +73,7 @@ impl<'a, T: Queryable> WholeData<'a, T> {
 }
 
 impl<'p, 'a, T: Queryable> WholePointerRef<'p, 'a, T> {
-    /// Its value.
+    /// Returns the value.
     pub fn value(self) -> WholeRef<'a, T>
         ensures { tree_of result ≡ (target_at self.entry).tree }
     {
@@ -81,7 +81,7 @@ impl<'p, 'a, T: Queryable> WholePointerRef<'p, 'a, T> {
         WholeRef { value }
     }
 
-    /// As [`Pointer::try_clone`](crate::states::state::Pointer::try_clone).
+    /// Returns a copy, as [`Pointer::try_clone`](crate::states::state::Pointer::try_clone).
     pub fn try_clone(self, alloc: Global) -> Queried<WholePointer<'a, T>>
         ensures value { IfOk result (λ p. own_target p ≡ target_at self.entry) }
         ensures memory { MemoryAlone result }
@@ -92,7 +92,7 @@ impl<'p, 'a, T: Queryable> WholePointerRef<'p, 'a, T> {
 }
 
 impl<'a, T: Queryable> WholePointers<'a, T> {
-    /// None.
+    /// Returns an empty list of pointers.
     pub fn new(alloc: Global) -> Self
         ensures { result.list.items ≡ [] }
     {
@@ -101,7 +101,7 @@ impl<'a, T: Queryable> WholePointers<'a, T> {
         }
     }
 
-    /// Adds this one.
+    /// Adds a pointer.
     pub fn push(&mut self, one: WholePointer<'a, T>) -> Result<(), AllocError>
         ensures { OnOk result (targets_at self.new ≡ targets_at self.old ++ own_target one.entry ∷ []) }
     {

@@ -5,13 +5,13 @@ use Rattle.jsonpath_rust.specs.Prelude.Selection.{call_view, document, constants
 use Rattle.jsonpath_rust.proofs.laws.selection.{at_hand_as, looked_up, expr_view-Call, expr_view-Lookup}
 use Rattle.jsonpath_rust.proofs.selection.walk.WalkContext.borrowed_value.Goals as goal
 
-pub returns-in_ok-found-in-Lookup-clause-value : goal.returns-in_ok-found-in-Lookup-clause-value
-returns-in_ok-found-in-Lookup-clause-value g c = λ n e.
+pub returns-in_ok-node-in-Lookup-clause-value : goal.returns-in_ok-node-in-Lookup-clause-value
+returns-in_ok-node-in-Lookup-clause-value g c = λ n e.
     let constants = constants_of c.args.self.now in
     let d = document c.args.self.now in
     let is = ap (λ p. expr_view constants p Single) c.in-Lookup.is ∙ expr_view-Lookup constants c.in-Lookup.steps Single in
     let found = looked_up c.in-Lookup.steps.items d n (tree_of c.args.at) e in
-    c.from_ref.ensures ∙ c.in_ok-found-in-Lookup.ensures.value ∙ ap (λ (ss : List SingularQuerySegment). value_at (map step_view ss) (tree_of c.args.at)) c.deref-in-Lookup.ensures.value ∙ sym (ap (λ x. value_of x d n) is ∙ found)
+    c.from_ref.ensures ∙ c.in_ok-node-in-Lookup.ensures.value ∙ ap (λ (ss : List SingularQuerySegment). value_at (map step_view ss) (tree_of c.args.at)) c.deref-in-Lookup.ensures.value ∙ sym (ap (λ x. value_of x d n) is ∙ found)
 
 pub returns-in-Call-clause-value : goal.returns-in-Call-clause-value
 returns-in-Call-clause-value g c = λ n e.
