@@ -2,7 +2,7 @@
 
 use crate::documents::read;
 use crate::timing::refused;
-use jsonpath_rust::{Condition, Prepared, Runner, LimitError, Units, Whole};
+use jsonpath_rust::{Condition, LimitError, Prepared, Runner, Units, Whole};
 use serde_json::Value;
 use std::alloc::Global;
 use std::io;

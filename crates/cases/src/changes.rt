@@ -7,7 +7,7 @@ use examples::patch::{Operation, apply_patch};
 use examples::redaction::redact;
 use examples::script::{Edit, apply_edits};
 use jsonpath_rust::Whole;
-use jsonpath_rust::query::{Prepared, Runner, LimitError, at};
+use jsonpath_rust::query::{LimitError, Prepared, Runner, at};
 use serde_json::Value;
 use std::alloc::Global;
 

@@ -1,7 +1,7 @@
 //! Conditions on a document, and how much work is just enough for a query or a condition.
 use crate::answers::{CaseResult, Refusal, are_same, pair, unchanged};
 use crate::arguments::{given_if, size, spelled, text, whole, whole_copy};
-use jsonpath_rust::{Condition, Prepared, Runner, LimitError, Units, WholeRef};
+use jsonpath_rust::{Condition, LimitError, Prepared, Runner, Units, WholeRef};
 use serde_json::Value;
 use std::alloc::Global;
 

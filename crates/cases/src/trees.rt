@@ -5,10 +5,10 @@ use crate::makers;
 use jsonpath_base::constant_prefix;
 use jsonpath_parser::model::JpQuery;
 use jsonpath_parser::{
-    Cursor, Parsed, first_unknown_function, child_segment, comp_expr, comparable, filter_atom, function_expr,
-    is_local, is_singular, jp_query, literal, logical_expr, logical_expr_and, parse_json_path,
-    rel_query, segment, segments, selector, singular_query, singular_query_segments,
-    slice_selector, test, to_query_text,
+    Cursor, Parsed, child_segment, comp_expr, comparable, filter_atom, first_unknown_function,
+    function_expr, is_local, is_singular, jp_query, literal, logical_expr, logical_expr_and,
+    parse_json_path, rel_query, segment, segments, selector, singular_query,
+    singular_query_segments, slice_selector, test, to_query_text,
 };
 use serde_json::{Value, json, put};
 use std::alloc::Global;

@@ -60,5 +60,9 @@ fn is_admissible(alloc: Global, query: &JpQuery, part: &[Step], functions: &[&st
     ensures memory { IfErr result (λ e. e ≡ OutOfMemory) }
 {
     let front = constant_prefix(alloc, query)?;
-    Ok(starts_with(&front, part) && is_local(query) && first_unknown_function(query, functions).is_none())
+    Ok(
+        starts_with(&front, part)
+            && is_local(query)
+            && first_unknown_function(query, functions).is_none(),
+    )
 }

@@ -30,7 +30,7 @@ pub use Rattle.jsonpath_rust.proofs.laws.selection.Kept.{given_right, keeps_none
 pub use Rattle.jsonpath_rust.proofs.laws.selection.Leading.{leads_below, leads_indexed}
 pub use Rattle.jsonpath_rust.proofs.laws.selection.NodelistLaws.{nodelist-selected_from, selected_from-applied}
 pub use Rattle.jsonpath_rust.proofs.laws.selection.PlanEquations.{call_view-Count, call_view-Length, call_view-Match, call_view-Search, call_view-Value, called, filter_view-Comparison, filter_view-Constant, filter_view-Test, expr_view-Call, expr_view-Children, expr_view-Constant, expr_view-Filter, expr_view-Literal, expr_view-Lookup, expr_view-Pattern, expr_view-Walk, segment_view-Descendant, segment_view-Selector, selector_view-Filter, selector_view-Index, selector_view-Name, selector_view-Wildcard}
-pub use Rattle.jsonpath_rust.proofs.laws.selection.PlanLaws.{arguments_rooted, filters_rooted, made_around, made_as, made_both, made_end, made_ended, made_here, made_next, made_none, made_start, numbered_kept, plan_made, plan_rooted, plan_settled, argument_in-nodes, same_maker}
+pub use Rattle.jsonpath_rust.proofs.laws.selection.PlanLaws.{arguments_rooted, filters_rooted, made_around, made_as, made_both, made_end, made_ended, made_here, made_next, made_none, made_start, numbered_kept, plan_made, plan_rooted, plan_stable, argument_in-nodes, same_maker}
 pub use Rattle.jsonpath_rust.proofs.laws.selection.RootedLaws.{asked_held, fit_patterns, kept_told, kept_trees, told_nodes, told_one, told_truth, truth_held}
 pub use Rattle.jsonpath_rust.proofs.laws.selection.Sinks.{finished_all, given_few, given_locations, given_nodes, given_paths, given_values, removal_is, removal_there, result_as}
 pub use Rattle.jsonpath_rust.proofs.laws.selection.StepLaws.{is_there, one_as, steps_alone, wanted_found}

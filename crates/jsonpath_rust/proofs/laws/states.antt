@@ -2,7 +2,7 @@ pub mod Asking
 pub mod Basic
 pub mod Found
 pub mod Lies
-pub mod PartEffort
+pub mod OperationEffort
 pub mod ProcessedLaws
 pub mod Steps
 pub mod Finding

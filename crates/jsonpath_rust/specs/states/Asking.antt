@@ -36,7 +36,7 @@ pub record AsksPatternAt (patterns : List (Bool × Argument)) (d : Document) (St
   pub pattern : Argument
   pub stands : Contains patterns (entire, pattern)
   pub state : Content
-  pub here : States state
+  pub at_state : States state
   pub read : IsPattern entire (plain (argument_content pattern d state))
 
 -- Memory ran out; or it is `InvalidJsonPath`, and there is such a pattern at the state, or at a value in the document or in its nodes.

@@ -16,7 +16,7 @@ use Rattle.jsonpath_rust.proofs.laws.selection.Walks.{Turns, turn_next, turn_sto
 
 -- ---- the tie
 
--- the steps that are settled
+-- the steps that are shared
 abbrev settled_steps : CurrentPath → Location
 settled_steps w = take w.shared_len (lent_location w.steps.items)
 
@@ -67,7 +67,7 @@ tied_further s w v step e n t = tied_by s w v (λ r h. subst (LastBegins r) same
         let within : w.shared_len ≤ length (lent_location w.steps.items) = omega (arith, w.within, length-map w.steps.items lent_step) in
         sym (take-append-le w.shared_len (lent_location w.steps.items) (lent_step step ∷ []) within) ∙ ap (take w.shared_len) (sym (ap lent_location e ∙ map-append lent_step w.steps.items (step ∷ []))) ∙ ap (λ k. take k (lent_location v.steps.items)) (sym n)
 
--- back, or where it was, with no more steps settled
+-- back, or where it was, with no more steps shared
 pub tied_back : {A : Type 0} {R : Ghosts A} {D : debug.Ghosts A} (s : Sink A R D) (w v : CurrentPath) (more : List StepRef) → w.steps.items ≡ v.steps.items ++ more → v.shared_len ≤ w.shared_len → IsPrefixInSync s w → IsPrefixInSync s v
 tied_back s w v more e le t = tied_by s w v (λ r h. ends_less (settled_steps v) rest _ (subst (LastBegins r) (sym same) h)) t
   where

@@ -25,7 +25,7 @@ right_beside : (old new : Maker) → new.constants.items ≡ old.constants.items
 right_beside old new same r =
     let e : constants_in new ≡ constants_in old = ap constants_view same in
     record {
-      shared_len = λ constants x. ap (parts_where constants) same ∙ r.shared_len constants (subst (λ k. Extends k constants) e x) ∙ sym e;
+      stable = λ constants x. ap (parts_where constants) same ∙ r.stable constants (subst (λ k. Extends k constants) e x) ∙ sym e;
       rooted = ap (list_all part_is_rooted) e ∙ r.rooted;
     }
 
@@ -106,7 +106,7 @@ kept_push constants (x ∷ es) e = kept_push (constants ++ constant_view constan
 
 -- as many are kept as there are constants
 kept_count : (m : Maker) → IsRight m → length (constants_in m) ≡ length m.constants.items
-kept_count m r = sym (ap (λ l. length l) (r.shared_len (constants_in m) (extends_none (constants_in m)))) ∙ length-map m.constants.items (constant_view (constants_in m))
+kept_count m r = sym (ap (λ l. length l) (r.stable (constants_in m) (extends_none (constants_in m)))) ∙ length-map m.constants.items (constant_view (constants_in m))
 
 -- the constant that was added stands for what the part stands for
 pub numbered_kept : (old new : Maker) (part : Constant) (n : ℕ) → IsKept old new part n → IsNumbered old new part n
@@ -122,9 +122,9 @@ numbered_kept old new part n k = record {
         right = λ r.
             let was : IsRight old = m.right r in
             record {
-              shared_len = λ constants x.
+              stable = λ constants x.
                   let on : Extends (constants_in old) constants = extends_on (constants_in old) (constants_in new) constants grows x in
-                  ap (parts_where constants) k.constants ∙ map-append (constant_view constants) old.constants.items _ ∙ ap (λ l. l ++ constant_view constants part ∷ []) (was.shared_len constants on) ∙ ap (λ q. constants_in old ++ q ∷ []) (m.says r constants on ∙ sym (is r)) ∙ sym grown;
+                  ap (parts_where constants) k.constants ∙ map-append (constant_view constants) old.constants.items _ ∙ ap (λ l. l ++ constant_view constants part ∷ []) (was.stable constants on) ∙ ap (λ q. constants_in old ++ q ∷ []) (m.says r constants on ∙ sym (is r)) ∙ sym grown;
               rooted = ap (list_all part_is_rooted) grown ∙ list_all-append part_is_rooted (constants_in old) (last ∷ []) ∙ and_from _ _ was.rooted (and_from _ _ (ap part_is_rooted (is r) ∙ root) refl);
             };
         rooted = λ h. m.rooted (sym k.met ∙ h);
@@ -136,15 +136,15 @@ numbered_kept old new part n k = record {
 -- where nothing is kept, it is right
 begun_right : (m : Maker) → m.constants.items ≡ [] → IsRight m
 begun_right m k = record {
-  shared_len = λ constants x. ap (parts_where constants) k ∙ sym (ap constants_view k);
+  stable = λ constants x. ap (parts_where constants) k ∙ sym (ap constants_view k);
   rooted = ap (λ l. list_all part_is_rooted (constants_view l)) k;
 }
 
 pub plan_made : {test : List tree.Segment → Bool} {old new : Maker} {was : List tree.Segment} (gs : List Segment) → Made test old new (λ constants. map (segment_view constants) gs) was → old.constants.items ≡ [] → segments_meant (constants_view new.constants.items) gs ≡ segments_of was
 plan_made {old = old} {new = new} gs m k = ap segments_of (m.says (begun_right old k) (constants_in new) (extends_none (constants_in new)))
 
-pub plan_settled : {A : Type 0} {test : A → Bool} {old new : Maker} {part : Constants → A} {a : A} → Made test old new part a → old.constants.items ≡ [] → IsStable new.constants.items
-plan_settled {old = old} {new = new} m k = (m.right (begun_right old k)).shared_len (constants_in new) (extends_none (constants_in new))
+pub plan_stable : {A : Type 0} {test : A → Bool} {old new : Maker} {part : Constants → A} {a : A} → Made test old new part a → old.constants.items ≡ [] → IsStable new.constants.items
+plan_stable {old = old} {new = new} m k = (m.right (begun_right old k)).stable (constants_in new) (extends_none (constants_in new))
 
 pub plan_rooted : {A : Type 0} {test : A → Bool} {old new : Maker} {part : Constants → A} {a : A} → Made test old new part a → old.constants.items ≡ [] → IsRooted new.constants.items
 plan_rooted {old = old} m k = (m.right (begun_right old k)).rooted

@@ -12,7 +12,7 @@ use Rattle.jsonpath_rust.proofs.laws.states.Lies.{LiesIn, Stays, IsDistinct, seg
 -- ---- fewer patterns, or fewer states
 
 asks_by : (xs ys : List (Bool × Argument)) (d : Document) (S : Content → Type 0) → ((p : Bool × Argument) → Contains xs p → Contains ys p) → AsksPatternAt xs d S → AsksPatternAt ys d S
-asks_by xs ys d S k h = record { entire = h.entire; pattern = h.pattern; stands = k (h.entire, h.pattern) h.stands; state = h.state; at_node = h.at_node; read = h.read }
+asks_by xs ys d S k h = record { entire = h.entire; pattern = h.pattern; stands = k (h.entire, h.pattern) h.stands; state = h.state; at_state = h.at_state; read = h.read }
 
 pub asks_left : {d : Document} {S : Content → Type 0} (xs ys : List (Bool × Argument)) → AsksPatternAt xs d S → AsksPatternAt (xs ++ ys) d S
 asks_left {d} {S} xs ys h = asks_by xs (xs ++ ys) d S (λ p. Contains-append_left xs ys p) h
@@ -36,10 +36,10 @@ asks_at {d} {S} f all more xs i x lt e h = asks_by (f x) (all xs) d S (contains_
 
 -- the first pattern, at this state
 pub asks_here : {S : Content → Type 0} (d : Document) (entire : Bool) (pattern : Argument) (more : List (Bool × Argument)) (s : Content) (o : Option Tree) → S s → o ≡ plain (argument_content pattern d s) → IsPattern entire o → AsksPatternAt ((entire, pattern) ∷ more) d S
-asks_here d entire pattern more s o here e k = record { entire = entire; pattern = pattern; stands = (0, omega arith, refl); state = s; at_node = here; read = subst (IsPattern entire) e k }
+asks_here d entire pattern more s o here e k = record { entire = entire; pattern = pattern; stands = (0, omega arith, refl); state = s; at_state = here; read = subst (IsPattern entire) e k }
 
 asks_so : (ps : List (Bool × Argument)) (d : Document) (S R : Content → Type 0) → ((s : Content) → S s → R s) → AsksPatternAt ps d S → AsksPatternAt ps d R
-asks_so ps d S R k h = record { entire = h.entire; pattern = h.pattern; stands = h.stands; state = h.state; at_node = k h.state h.at_node; read = h.read }
+asks_so ps d S R k h = record { entire = h.entire; pattern = h.pattern; stands = h.stands; state = h.state; at_state = k h.state h.at_state; read = h.read }
 
 -- no pattern asks nothing
 asks_none : (d : Document) (S : Content → Type 0) → AsksPatternAt [] d S → ⊥

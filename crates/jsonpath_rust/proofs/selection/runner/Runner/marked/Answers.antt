@@ -4,4 +4,4 @@ use Rattle.jsonpath_rust.proofs.Stops.{memory_stops}
 use Rattle.jsonpath_rust.proofs.selection.runner.Runner.marked.Goals as goal
 
 pub returns-in-Err-clause-refused : goal.returns-in-Err-clause-refused
-returns-in-Err-clause-refused g c = memory_stops g.L.Limit.counts g.L.Limit.stops (runner_view c.args.self.now) (document_at c.args.value) c.stop.result c.stop.ensures
+returns-in-Err-clause-refused g c = memory_stops g.L.Limit.counts g.L.Limit.stops (runner_view c.args.self.now) (document_at c.args.value) c.error.result c.error.ensures

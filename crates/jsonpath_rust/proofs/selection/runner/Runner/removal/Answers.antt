@@ -18,4 +18,4 @@ returns-in-None-clause-removal g c =
     removal_there begun _ (nodelist (runner_view c.args.self.now) d) (λ l. ap (λ (r : LocationSet). location_set r l) same ∙ c.new.ensures.none l) (ap (λ (r : LocationSet). location_count r) same ∙ c.new.ensures.count) c.in_ok-sink.ensures.outcome c.in-None.ensures
 
 pub returns-in-Err-clause-refused : goal.returns-in-Err-clause-refused
-returns-in-Err-clause-refused g c = memory_stops g.L.Limit.counts g.L.Limit.stops (runner_view c.args.self.now) (document_at c.args.value) c.stop.result c.stop.ensures
+returns-in-Err-clause-refused g c = memory_stops g.L.Limit.counts g.L.Limit.stops (runner_view c.args.self.now) (document_at c.args.value) c.error.result c.error.ensures

@@ -11,4 +11,4 @@ returns-in-Ok-clause-replaced g c =
 
 pub returns-clause-replaced : goal.returns-clause-replaced
 returns-clause-replaced g c =
-    record { outcome = tt; refused = memory_stops g.L.Limit.counts g.L.Limit.stops (runner_view c.args.self.now) (value_document c.args.value.now) c.stop.result c.stop.ensures; same = search rules }
+    record { outcome = tt; refused = memory_stops g.L.Limit.counts g.L.Limit.stops (runner_view c.args.self.now) (value_document c.args.value.now) c.error.result c.error.ensures; same = search rules }

@@ -5,4 +5,4 @@ use Rattle.jsonpath_rust.proofs.Stops.{query_stops}
 use Rattle.jsonpath_rust.proofs.selection.runner.Runner.run_into.Goals as goal
 
 pub returns-in-Err-clause-refused : goal.returns-in-Err-clause-refused
-returns-in-Err-clause-refused g c = query_stops g.L.Limit.counts g.L.Limit.stops (runner_view c.args.self.now) (document_at c.args.value) c.lend-request.result.budget.limit c.in-Err.halt c.stop.result c.stop.ensures (search rules) (search rules)
+returns-in-Err-clause-refused g c = query_stops g.L.Limit.counts g.L.Limit.stops (runner_view c.args.self.now) (document_at c.args.value) c.lend-request.result.budget.limit c.in-Err.halt c.error.result c.error.ensures (search rules) (search rules)

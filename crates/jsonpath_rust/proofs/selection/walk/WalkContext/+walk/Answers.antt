@@ -757,7 +757,7 @@ ensure_cached-returns-in-Ok-clause-comes g t c =
     let part = part_at constants c.args.number in
     let same = c.in-Ok.ensures.given ∙ sym (ap (λ p. result_of p d) c.in-Some.ensures.part) in
     let given = subst (λ x. IsGiven x part d) (sym same) (given_right part d) in
-    record { back = record { same = ap (λ w. w.steps.items) c.replace-here.ensures.value; ready = c.ensure_cached.ensures.right constants d given c.in-Ok.ensures.comes.back.ready }; ready = tt; halts = tt }
+    record { back = record { same = ap (λ w. w.steps.items) c.replace-here.ensures.value; ready = c.store.ensures.right constants d given c.in-Ok.ensures.comes.back.ready }; ready = tt; halts = tt }
 
 pub ensure_cached-returns-in-Err-clause-comes : goal.ensure_cached-returns-in-Err-clause-comes
 ensure_cached-returns-in-Err-clause-comes g t c =
@@ -769,8 +769,8 @@ ensure_cached-returns-in-Err-clause-comes g t c =
     let why = subst (λ ps. IsWalkError limit ps d c.in-Err.halt) (sym (fit_patterns c.args.demand (part_at constants c.args.number) c.in-Some.ensures.fits)) halt in
     record {
       back = tt;
-      ready = c.keep_halt.ensures.right constants d limit halt comes.ready;
-      halts = subst (λ h. IsWalkError limit (argument_patterns (argument_at constants c.args.demand c.args.number)) d h) (sym c.keep_halt.ensures.same) why;
+      ready = c.store_error.ensures.right constants d limit halt comes.ready;
+      halts = subst (λ h. IsWalkError limit (argument_patterns (argument_at constants c.args.demand c.args.number)) d h) (sym c.store_error.ensures.same) why;
     }
 
 pub evaluate_constant-returns-in-Nodes-clause-given : goal.evaluate_constant-returns-in-Nodes-clause-given

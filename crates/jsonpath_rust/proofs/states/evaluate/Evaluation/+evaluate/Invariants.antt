@@ -3,7 +3,7 @@ use Rattle.jsonpath_base.specs.Prelude.Documents.{AllByRecursion, argument_effor
 use Rattle.jsonpath_rust.specs.Prelude.Documents.{arg_trees}
 use Rattle.jsonpath_rust.specs.Prelude.States.{arguments_trees, content_at, document, each_holds_at, holds_at, inside, joined_from, nothing, part_content, segments_content, some_holds_at, Target, target_at, target_of, targets, targets_at, tops}
 use Rattle.jsonpath_rust.proofs.laws.states.{Stays}
-use Rattle.jsonpath_rust.proofs.laws.states.PartEffort.{part_effort}
+use Rattle.jsonpath_rust.proofs.laws.states.OperationEffort.{operation_effort}
 use Rattle.jsonpath_rust.proofs.states.evaluate.Evaluation.+evaluate.Given as goal
 
 abbrev pub decreases-segments_data : goal.decreases-segments_data
@@ -19,10 +19,10 @@ abbrev pub decreases-selector_data : goal.decreases-selector_data
 decreases-selector_data g l = 4 * selector_effort 0 (selector_view l.selector.now)
 
 abbrev pub decreases-each_target : goal.decreases-each_target
-decreases-each_target g l = 4 * part_effort l.part + 2
+decreases-each_target g l = 4 * operation_effort l.part + 2
 
 abbrev pub decreases-at_target : goal.decreases-at_target
-decreases-at_target g l = 4 * part_effort l.part + 1
+decreases-at_target g l = 4 * operation_effort l.part + 1
 
 abbrev pub decreases-matching_children : goal.decreases-matching_children
 decreases-matching_children g l = 4 * filter_effort 0 (filter_view l.filter.now) + 3
