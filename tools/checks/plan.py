@@ -13,7 +13,7 @@ import subprocess
 
 from lib.repository import ROOT, below, crates_of
 
-LIMITS = {"jsonpath_rust": 13.2, "jsonpath_base": 10.6}
+LIMITS = {"jsonpath_rust": 13.2, "jsonpath_base": 10.7}
 
 
 def run(_options):
